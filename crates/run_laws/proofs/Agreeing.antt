@@ -17,9 +17,11 @@ use Rattle.tor_words.specs.Given.{BoundsLaw, IsWrittenOf}
 use Rattle.tor_words.specs.declared.settings.Settings.{Settings}
 use Rattle.tor_words.specs.declared.check_settings.CheckSettings.{CheckSettings}
 use Rattle.tor_words.specs.CheckGiven.{check_settings_given}
-use Rattle.torcheck_run.specs.Judging.{CanBeJudged, IsAccepted, IsVerdict, JudgesByDumps, seen_for}
-use Rattle.torcheck_run.specs.Limits.{max_result}
-use Rattle.torcheck_run.proofs.Comings.{OneValue, same_file, one_verdict}
+use Rattle.torcheck_run.specs.Judging.{CanBeJudged, IsVerdict, JudgesByDumps, seen_for}
+use Rattle.result_file.specs.Ruled.{IsAccepted}
+use Rattle.result_file.specs.Limits.{max_result}
+use Rattle.result_file.proofs.OneRuling.{OneValue, same_file}
+use Rattle.torcheck_run.proofs.Comings.{one_verdict}
 use Rattle.run_base.specs.Reading.{nothing, seen_from}
 use Rattle.tor_output.specs.Accepting.{FaithfulLaw, TableLaw}
 use Rattle.tor_output.specs.Seen.{seen, seen_in}

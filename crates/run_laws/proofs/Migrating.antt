@@ -24,9 +24,10 @@ use Rattle.run_base.specs.Reading.{nothing, seen_from}
 use Rattle.run_base.specs.WholeFile.{IsLongFile}
 use Rattle.tor_arena.specs.Limits.{max_paths}
 use Rattle.tor_words.specs.declared.check_settings.CheckSettings.{CheckSettings}
-use Rattle.torcheck_run.specs.Limits.{max_result}
-use Rattle.torcheck_run.specs.Judging.{BreaksRule, IsVerdict, JudgesByDumps, seen_for, Outcome, Judged, NoResult, TooLong, Ends, SettingsGive}
-use Rattle.torcheck_run.proofs.Comings.{OneValue, same_file}
+use Rattle.result_file.specs.Limits.{max_result}
+use Rattle.result_file.specs.Ruled.{BreaksRule}
+use Rattle.torcheck_run.specs.Judging.{IsVerdict, JudgesByDumps, seen_for, Outcome, Judged, NoResult, TooLong, Ends, SettingsGive}
+use Rattle.result_file.proofs.OneRuling.{OneValue, same_file}
 use Rattle.tor_output.specs.Output.{migrated}
 use Rattle.run_laws.specs.Agreement.{MigrateLaw}
 use Rattle.run_laws.specs.SelfGrading.{KeepDumps}

@@ -21,8 +21,9 @@ use Rattle.run_base.specs.Reading.{nothing, seen_from, seen_of}
 use Rattle.run_base.proofs.Values as values
 use Rattle.tor_words.specs.declared.settings.Settings.{Settings}
 use Rattle.tor_words.specs.Given.{BoundsLaw}
-use Rattle.torcheck_run.specs.Judging.{IsAccepted, seen_for}
-use Rattle.torcheck_run.proofs.Comings.{OneValue}
+use Rattle.result_file.specs.Ruled.{IsAccepted}
+use Rattle.torcheck_run.specs.Judging.{seen_for}
+use Rattle.result_file.proofs.OneRuling.{OneValue}
 use Rattle.tor_output.specs.First.{First, Nothing, Givens, Result, Earlier, TakesUp, first_in}
 use Rattle.tor_output.specs.Output.{IsResumed}
 use Rattle.tor_output.specs.Seen.{joined, taken_up}

@@ -13,7 +13,7 @@ use Rattle.tor_words.specs.declared.check_settings.CheckSettings.{CheckSettings}
 use Rattle.tor_words.specs.CheckGiven.{check_settings_given}
 use Rattle.tor_words.specs.Given.{settings_given}
 use Rattle.torcheck_run.specs.Judging.{CanBeJudged, IsVerdict, Outcome, SettingsGive}
-use Rattle.torcheck_run.specs.Limits.{max_result}
+use Rattle.result_file.specs.Limits.{max_result}
 use Rattle.tor_output.specs.First.{Earlier, TakesUp}
 use Rattle.tor_output.specs.Output.{Faithful, IsOutput, migrated}
 use Rattle.tor_output.specs.Written.{Written}

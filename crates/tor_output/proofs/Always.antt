@@ -15,7 +15,7 @@ use Rattle.run_base.specs.declared.status.Status.{Status}
 use Rattle.run_base.specs.declared.status.Status.TheVariants as status
 use Rattle.run_base.proofs.Statuses.{Asks, Cause, IsOfText}
 use Rattle.run_base.proofs.Statuses as statuses
-use Rattle.torcheck_run.proofs.Comings.{OneValue}
+use Rattle.result_file.proofs.OneRuling.{OneValue}
 use Rattle.tor_output.specs.Answer.{IsNote, FailedAtFirst, FailedAt, LeadsToBroken, LeadsToMalformed, LeadsToLimit, LeadsToAbsent}
 use Rattle.tor_output.specs.First.{NoFile, TooLong, BadLine, Broken, IsTakenUp, first_by}
 use Rattle.tor_output.specs.Resuming.{AsksToResume}

@@ -1,5 +1,5 @@
 -- The words and the files of a run give one outcome.
-use Rattle.std.proofs.Common.{◌≡◌, ◌⊎◌, inl, inr, ℕ, List, [], Option, Some, None, Ok, Err, refl, sym, ap, ap₂, subst, ◌∙◌}
+use Rattle.std.proofs.Common.{◌≡◌, ◌⊎◌, inl, inr, ℕ, List, Option, Some, None, Ok, Err, refl, sym, ap, ap₂, subst, ◌∙◌}
 use Rattle.tor_io.specs.Contents.{Files}
 use Rattle.relationships.specs.declared.given.Given.{Given}
 use Rattle.as_rel.specs.Givens.{givens_in}
@@ -8,19 +8,18 @@ use Rattle.dump_read.specs.declared.taking.Taken.{Taken}
 use Rattle.dump_read.specs.Seen.{DumpsEnd, Absent, Malformed, Limit}
 use Rattle.result_text.specs.declared.file.ResultFile.{ResultFile}
 use Rattle.result_text.specs.Grammar.{IsTextOf, IsBadLine}
-use Rattle.result_rules.specs.declared.verdict.Verdict.TheVariants.{Yes, No}
+use Rattle.result_rules.specs.declared.verdict.Verdict.TheVariants.{No}
 use Rattle.tor_words.specs.declared.settings.Settings.{Settings}
 use Rattle.tor_words.specs.Given.{settings_given}
 use Rattle.run_base.specs.declared.status.Status.{Status}
 use Rattle.run_base.specs.declared.status.Status.TheVariants as status
 use Rattle.run_base.specs.WholeFile.{IsFile}
 use Rattle.run_base.proofs.Values as values
-use Rattle.torcheck_run.specs.Limits.{max_result}
-use Rattle.torcheck_run.specs.Judging.{BreaksRule, IsAccepted}
-use Rattle.torcheck_run.proofs.Comings.{OneValue, one_bad_line, one_verdict, same_file}
+use Rattle.result_file.specs.Limits.{max_result}
+use Rattle.result_file.specs.Ruled.{BreaksRule, IsAccepted}
+use Rattle.result_file.proofs.OneRuling.{OneValue, none_broken, one_bad_line, one_broken, same_file}
 use Rattle.tor_output.specs.First.{First, Nothing, Givens, Result, Earlier, FirstEnd, NoFile, TooLong, BadLine, Broken, AreGivens, HoldsResult, TakesUp, EndsAtFirst, SaysGivens, first_in}
 use Rattle.tor_output.specs.Limits.{max_given_octets}
-use Rattle.tor_output.specs.Sampling.{no_files}
 use Rattle.tor_output.specs.Seen.{Outcome, Reads, Joins, Holds, Stops, Ends, EndsBehindGivens, EndsOnEarlier, ComesTo, Gives, OneOutcomeLaw, seen_in, joined}
 
 -- the status that an outcome asks for
@@ -96,10 +95,7 @@ result_or_taken (Earlier name) files a b one other = absurd one
 -- octets that are accepted break no rule
 accepted_or_broken : {X : Type 0} → OneValue → (a b : List ℕ) (file : ResultFile) (line rule : ℕ) → a ≡ b → IsAccepted file a → BreaksRule b (No line rule) → X
 accepted_or_broken law a b file line rule same accepted broken =
-    no_is_yes (one_verdict law a [] no_files Yes (No line rule) (inr (file, accepted, refl)) (inl (subst (λ (bytes : List ℕ). BreaksRule bytes (No line rule)) (sym same) broken)))
-  where
-    no_is_yes : {Y : Type 0} → Yes ≡ No line rule → Y
-    no_is_yes e = absurd cc
+    absurd (none_broken law a file (No line rule) accepted (subst (λ (bytes : List ℕ). BreaksRule bytes (No line rule)) (sym same) broken))
 
 taken_or_end : {X : Type 0} → OneValue → (f : First) (files : Files) (file : ResultFile) (end : FirstEnd) → TakesUp f files file → EndsAtFirst f files end → X
 taken_or_end law Nothing files file end one other = absurd one
@@ -138,7 +134,7 @@ same_taken law (Earlier name) files a b one other =
 
 same_broken : OneValue → (a b : List ℕ) (line line' rule rule' : ℕ) → a ≡ b → BreaksRule a (No line rule) → BreaksRule b (No line' rule') → Broken line rule ≡ Broken line' rule'
 same_broken law a b line line' rule rule' same one other =
-    same_no (one_verdict law a [] no_files (No line rule) (No line' rule') (inl one) (inl (subst (λ (bytes : List ℕ). BreaksRule bytes (No line' rule')) (sym same) other)))
+    same_no (one_broken law a (No line rule) (No line' rule') one (subst (λ (bytes : List ℕ). BreaksRule bytes (No line' rule')) (sym same) other))
   where
     same_no : No line rule ≡ No line' rule' → Broken line rule ≡ Broken line' rule'
     same_no e = cc

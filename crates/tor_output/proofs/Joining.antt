@@ -25,7 +25,6 @@ use Rattle.result_text.specs.declared.file.ResultFile.{ResultFile}
 use Rattle.result_rules.specs.Against.{its_rows, row_of}
 use Rattle.run_base.specs.Reading.{nothing, seen_from, seen_of}
 use Rattle.tor_words.specs.declared.settings.Settings.{Settings}
-use Rattle.torcheck_run.specs.Judging.{seen_for}
 use Rattle.tor_output.specs.Output.{IsResumed}
 use Rattle.tor_output.specs.Resuming.{Hold, IsOfBoth, IsOfDumps}
 use Rattle.tor_output.specs.Seen.{joined, taken_up}
@@ -141,9 +140,9 @@ wider earlier limit most dumps files taken less joins_to =
 
 -- where the first dumps give what the result holds, all give what further ones give on top of it, under a limit that is no greater
 pub dumps_of_both : (earlier : ResultFile) (limit : ℕ) (names dumps : List (List ℕ)) (files : Files) (before taken : Taken) → limit ≤ max_paths
-    → seen_for earlier names files ≡ Ok before → before.table.rows ≡ its_rows earlier → before.counts ≡ earlier.asides
+    → seen_from earlier.sets 1 (nothing max_paths) names files ≡ Ok before → before.table.rows ≡ its_rows earlier → before.counts ≡ earlier.asides
     → joined earlier limit dumps files ≡ Ok taken
-    → (after : Taken) × (seen_for earlier (names ++ dumps) files ≡ Ok after) × (after.table.rows ≡ taken.table.rows) × (after.counts ≡ taken.counts)
+    → (after : Taken) × (seen_from earlier.sets 1 (nothing max_paths) (names ++ dumps) files ≡ Ok after) × (after.table.rows ≡ taken.table.rows) × (after.counts ≡ taken.counts)
 dumps_of_both earlier limit names dumps files before taken few gives rows counts joins_to =
     let wide = wider earlier limit max_paths dumps files taken few joins_to in
     let on = behind earlier.sets 1 (nothing max_paths) before names dumps files gives in

@@ -15,7 +15,7 @@ use Rattle.run_base.specs.declared.reading.Stopped.{Stopped}
 use Rattle.run_base.specs.Answers.{note_in}
 use Rattle.run_base.specs.Opening.{FilesEnd, AllRead, EndedAt, EndsSo, OpensDumps, OpensInOrder, RefusalEnds}
 use Rattle.run_base.proofs.Openings.{all_behind, bad_line_ends, first_opened, no_ends, opens_weaker, refusal_ends, stop_alone, stop_behind, unread_ends}
-use Rattle.torcheck_run.specs.CheckAnswer.{no_text}
+use Rattle.result_file.specs.VerdictText.{no_text}
 use Rattle.tor_output.specs.declared.unwritten.Unwritten.{Unwritten}
 use Rattle.tor_output.specs.declared.unwritten.Unwritten.TheVariants as unwritten
 use Rattle.tor_output.specs.First.{Nothing, first_by, first_in}

@@ -10,7 +10,7 @@ use Rattle.dump_read.specs.Seen.{DumpsEnd, Absent, Malformed, Limit}
 use Rattle.rel_infer.specs.SelfAcceptance.{AreTableRows}
 use Rattle.result_text.specs.declared.file.ResultFile.{ResultFile}
 use Rattle.result_text.specs.Grammar.{IsTextOf, IsBadLine}
-use Rattle.torcheck_run.specs.FileText.{IsRead, AreOf}
+use Rattle.result_file.specs.FileText.{IsRead, AreOf}
 use Rattle.result_rules.specs.declared.verdict.Verdict.TheVariants.{No}
 use Rattle.tor_words.specs.declared.settings.Mode.TheVariants.{Summary, Migrate, Resume}
 use Rattle.tor_words.specs.declared.settings.Settings.{Settings}
@@ -29,15 +29,15 @@ use Rattle.run_base.specs.Notes.{malformed_note, limit_note, bad_line_note, too_
 use Rattle.run_base.specs.Answers.{AnswersStop, AnswersWith, IsNoMemory, note_in, note_text}
 use Rattle.tor_output.specs.declared.unwritten.Unwritten.{Unwritten}
 use Rattle.tor_output.specs.declared.unwritten.Unwritten.TheVariants as unwritten
-use Rattle.torcheck_run.specs.CheckAnswer.{no_text}
+use Rattle.result_file.specs.VerdictText.{no_text}
 use Rattle.tor_output.specs.Answer.{AreGivensGood, JoinsBefore, IsNote}
 use Rattle.tor_output.specs.First.{First, Nothing, Givens, Earlier, NoFile, TooLong, BadLine, Broken, AreGivens}
 use Rattle.tor_output.specs.First.{AreSomeGivens, AreSound, HoldsResult, IsSomeResult, TakesUpSome, EndsAtFirst, first_by, first_in}
 use Rattle.tor_output.specs.First.{Result as ResultAt}
 use Rattle.tor_output.specs.Output.{IsMigrated, IsOutput, IsOutputIn, IsOutputOf, IsOutputOnEarlier, IsOutputOnSome}
 use Rattle.tor_output.specs.Reach.{LeavesOnlyFirst, IsFirstInReach, StopsInReach, IsUnwrittenInReach, StaysUnwrittenInReach}
-use Rattle.torcheck_run.specs.Judging.{BreaksRule, IsAccepted}
-use Rattle.torcheck_run.specs.Limits.{max_result}
+use Rattle.result_file.specs.Ruled.{BreaksRule, IsAccepted}
+use Rattle.result_file.specs.Limits.{max_result}
 use Rattle.tor_output.specs.Refusals.{AreGivensIn, TakesUpIn, DumpsEndIn, JoinedEndIn, FirstEnds, StopsIn, StopsOn, IsStopIn, IsStopOn, IsStopBehindFirst}
 use Rattle.tor_output.specs.Refusals.{IsUnwrittenAtFirst, IsUnwrittenIn, IsUnwritten, AnswersUnwritten}
 use Rattle.tor_output.specs.Sampling.{known_by, known_in}

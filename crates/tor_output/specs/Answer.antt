@@ -13,7 +13,7 @@ use Rattle.run_base.specs.declared.status.Status.{Status}
 use Rattle.run_base.specs.declared.status.Status.TheVariants as status
 use Rattle.run_base.specs.declared.notes.FirstFile.{FirstFile}
 use Rattle.run_base.specs.Notes.{malformed_note, limit_note, bad_line_note, too_long_note, read_fault_note, plain_note}
-use Rattle.torcheck_run.specs.CheckAnswer.{no_text}
+use Rattle.result_file.specs.VerdictText.{no_text}
 use Rattle.result_text.specs.declared.file.ResultFile.{ResultFile}
 use Rattle.tor_output.specs.Output.{IsNoteOfOutput}
 use Rattle.run_base.specs.Reading.{nothing, seen_from}

@@ -16,8 +16,8 @@ use Rattle.tor_words.specs.Given.{settings_given}
 use Rattle.run_base.specs.declared.notes.FirstFile.{FirstFile}
 use Rattle.run_base.specs.declared.notes.FirstFile.TheVariants as first
 use Rattle.run_base.specs.WholeFile.{IsFile, IsLongFile}
-use Rattle.torcheck_run.specs.Judging.{IsAccepted, BreaksRule}
-use Rattle.torcheck_run.specs.Limits.{max_result}
+use Rattle.result_file.specs.Ruled.{IsAccepted, BreaksRule}
+use Rattle.result_file.specs.Limits.{max_result}
 use Rattle.tor_output.specs.Limits.{max_given_octets}
 
 -- what is read first

@@ -20,7 +20,7 @@ use Rattle.run_base.specs.declared.whole_file.Unread.{Unread}
 use Rattle.run_base.specs.declared.whole_file.Unread.TheVariants as unread
 use Rattle.run_base.specs.Answers.{Answers, AnswersUnread, AnswersWith, IsReadFault, IsOfWords}
 use Rattle.run_base.specs.Notes.{bad_line_note}
-use Rattle.torcheck_run.specs.CheckAnswer.{no_text}
+use Rattle.result_file.specs.VerdictText.{no_text}
 use Rattle.tor_output.specs.declared.unwritten.Unwritten.{Unwritten}
 use Rattle.tor_output.specs.declared.unwritten.Unwritten.TheVariants as unwritten
 use Rattle.tor_output.specs.Answer.{ReadBefore, AreGivensGood}

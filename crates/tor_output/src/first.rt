@@ -14,13 +14,13 @@ ghost use Rattle.tor_output.specs.Refusals.{AreGivensIn, TakesUpIn, IsUnwrittenA
 use crate::unwritten::Unwritten;
 use as_rel::{MAX_REL, RelError, parse_given};
 use relationships::Given;
+use result_file::{MAX_RESULT, NoResult, Ruling, read_result, ruling_of_file};
 use result_text::ResultFile;
 use run_base::{FirstFile, Refusal, read_whole};
 use std::alloc::Global;
 use tor_arena::{Keys, List};
 use tor_io::Shelf;
 use tor_words::Name;
-use torcheck_run::{MAX_RESULT, NoResult, Ruling, read_result, ruling_of_file};
 
 // The relationships that the octets say. The octets are let go.
 fn parse_givens(alloc: Global, keys: Keys, bytes: List<u8>) -> Result<List<Given>, RelError>

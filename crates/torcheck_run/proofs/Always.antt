@@ -13,7 +13,8 @@ use Rattle.run_base.proofs.Statuses.{Asks, IsOfText}
 use Rattle.run_base.proofs.Statuses as statuses
 use Rattle.torcheck_run.specs.Judging.{Outcome, Judged, NoResult, TooLong, Ends, WordsGive}
 use Rattle.torcheck_run.specs.CheckAnswer.{KnownFilesGive, FailedAtResult, FailedAtDump, IsCheckNote, GainsVerdict, GainsNo, GainsVerdictPrefix}
-use Rattle.torcheck_run.proofs.Comings.{OneValue, status_for, one_status}
+use Rattle.result_file.proofs.OneRuling.{OneValue}
+use Rattle.torcheck_run.proofs.Comings.{status_for, one_status}
 
 given_none : (words : List (List ℕ)) (files : Files) (x : Outcome) → WordsGive words files x → IsNone (check_settings_given words) → ⊥
 given_none words files x gives none = by (subst IsNone gives.1 none)

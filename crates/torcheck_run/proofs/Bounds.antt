@@ -22,7 +22,7 @@ use Rattle.result_rules.specs.declared.verdict.Verdict.TheVariants.{Yes, No}
 use Rattle.torcheck_run.specs.CheckAnswer.{KnownFilesGive, status_of}
 use Rattle.torcheck_run.specs.Unjudging.{IsUnjudged, IsTooLong, AnswersUnjudged}
 use Rattle.torcheck_run.proofs.Comings.{not_long}
-use Rattle.torcheck_run.specs.Limits.{max_result}
+use Rattle.result_file.specs.Limits.{max_result}
 
 no_limit : {X : Type 0} (answer : Answer) → IsNoMemory answer → answer.status ≡ status.Limit → X
 no_limit answer is limit = no_memory_not status.Limit answer (λ e. absurd cc) is limit

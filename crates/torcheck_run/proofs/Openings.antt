@@ -21,7 +21,7 @@ use Rattle.run_base.proofs.Openings.{first_opened, opens_weaker, refusal_ends, s
 use Rattle.torcheck_run.specs.declared.judging.Unjudged.{Unjudged}
 use Rattle.torcheck_run.specs.declared.judging.Unjudged.TheVariants as unjudged
 use Rattle.torcheck_run.specs.CheckAnswer.{status_of}
-use Rattle.torcheck_run.specs.Judging.{BreaksRule}
+use Rattle.result_file.specs.Ruled.{BreaksRule}
 use Rattle.torcheck_run.specs.Opening.{CheckEndsSo, IsVerdictOfSome, JudgesBySome, JudgesOpening, UnjudgedEnds, files_named, named_in}
 use Rattle.torcheck_run.specs.Unjudging.{AnswersUnjudged}
 

@@ -20,11 +20,11 @@ use Rattle.torcheck_run.specs.declared.judging.Unjudged.{Unjudged}
 use Rattle.torcheck_run.specs.declared.judging.Unjudged.TheVariants as unjudged
 use Rattle.run_base.specs.Notes.{malformed_note, limit_note, read_fault_note}
 use Rattle.run_base.specs.Answers.{AnswersStop, AnswersWith, IsNoMemory, IsOfWords, note_in, note_text}
-use Rattle.torcheck_run.specs.Judging.{Outcome, Judged, NoResult, TooLong, Ends, IsAccepted, IsResult, IsVerdict, SettingsGive, LeavesOnlyResult, seen_for}
-use Rattle.torcheck_run.specs.CheckAnswer.{result_note, KnownFilesGive, HoldsBefore, IsCheckNote}
+use Rattle.torcheck_run.specs.Judging.{Outcome, Judged, NoResult, TooLong, Ends, IsResult, IsVerdict, SettingsGive, LeavesOnlyResult, seen_for}
+use Rattle.result_file.specs.Ruled.{IsAccepted, HasOctets}
+use Rattle.result_file.specs.Limits.{result_note, max_result}
+use Rattle.torcheck_run.specs.CheckAnswer.{KnownFilesGive, HoldsBefore, IsCheckNote}
 use Rattle.torcheck_run.specs.Unjudging.{DumpsEndWith, StopsAt, IsRefusedBy, IsUnjudgedIn, IsUnjudged, IsFailedResult, AnswersUnjudged}
-use Rattle.torcheck_run.specs.Ruled.{HasOctets}
-use Rattle.torcheck_run.specs.Limits.{max_result}
 
 -- ---- what the words and the files give, where these are known
 

@@ -1,5 +1,5 @@
 -- What a check answers, writes and notes, by what its words and files give.
-use Rattle.std.specs.Prelude.{◌≡◌, ◌≤◌, ◌⊎◌, ◌-◌, ◌++◌, ◌∷◌, [], ℕ, List, length, take, Option, Some, IfSome, IsOk, codes, decimal}
+use Rattle.std.specs.Prelude.{◌≡◌, ◌≤◌, ◌⊎◌, ◌-◌, ℕ, List, length, take, Option, Some, IfSome, IsOk}
 use Rattle.std.specs.Io.KnownBytes.{append_known}
 use Rattle.tor_io.specs.Contents.{Files, GainsPrefix}
 use Rattle.result_text.specs.declared.file.ResultFile.{ResultFile}
@@ -14,10 +14,11 @@ use Rattle.tor_words.specs.Refused.{HasUsageLine}
 use Rattle.tor_words.specs.CheckGiven.{check_settings_given}
 use Rattle.run_base.specs.declared.status.Status.{Status}
 use Rattle.run_base.specs.declared.status.Status.TheVariants as status
-use Rattle.run_base.specs.declared.notes.FirstFile.TheVariants.{Result}
-use Rattle.run_base.specs.Notes.{malformed_note, limit_note, read_fault_note, too_long_note, plain_note}
-use Rattle.torcheck_run.specs.Limits.{max_result}
-use Rattle.torcheck_run.specs.Judging.{Outcome, Judged, NoResult, TooLong, Ends, WordsGive, IsResult, IsAccepted, seen_for}
+use Rattle.run_base.specs.Notes.{malformed_note, limit_note, read_fault_note, plain_note}
+use Rattle.torcheck_run.specs.Judging.{Outcome, Judged, NoResult, TooLong, Ends, WordsGive, IsResult, seen_for}
+use Rattle.result_file.specs.Limits.{max_result, result_note}
+use Rattle.result_file.specs.VerdictText.{verdict_text}
+use Rattle.result_file.specs.Ruled.{IsAccepted}
 use Rattle.run_base.specs.WholeFile.{LeavesOnly}
 
 -- what the words and the files give, where these are known
@@ -26,16 +27,7 @@ KnownFilesGive words known outcome = IfSome known (λ files. WordsGive words fil
 
 -- ---- out
 
--- the line and the rule
-abbrev pub no_text : ℕ → ℕ → List ℕ
-no_text line rule = codes "no|" ++ decimal line ++ codes "|" ++ decimal rule ++ 10 ∷ []
-
--- the text of a verdict
-abbrev pub verdict_text : Verdict → List ℕ
-verdict_text verdict.Yes = codes "yes" ++ 10 ∷ []
-verdict_text (verdict.No line rule) = no_text line rule
-
--- the status of a run that has written it
+-- the status of a run that has written the text of this verdict
 abbrev pub status_of : Verdict → Status
 status_of verdict.Yes = status.Done
 status_of (verdict.No line rule) = status.No
@@ -54,10 +46,6 @@ GainsVerdictPrefix words known old new = (answer : Verdict) × KnownFilesGive wo
     GainsPrefix old new (verdict_text answer)
 
 -- ---- statuses
-
--- the note of a result file that has too many octets
-abbrev pub result_note : List ℕ
-result_note = too_long_note Result
 
 -- what the words and the files give, where these are known, is a fault of a record
 abbrev pub LeadsToMalformed : List (List ℕ) → Option Files → Type 0

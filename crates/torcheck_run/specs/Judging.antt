@@ -2,10 +2,9 @@
 use Rattle.std.specs.Prelude.{◌≡◌, ◌<◌, ◌⊎◌, ℕ, List, [], ◌∷◌, length, Option, Some, None, Result, Ok, Err, IsOk}
 use Rattle.tor_io.specs.Contents.{Files}
 use Rattle.result_text.specs.declared.file.ResultFile.{ResultFile}
-use Rattle.result_text.specs.Grammar.{IsTextOf, IsBadLine}
+use Rattle.result_text.specs.Grammar.{IsTextOf}
 use Rattle.result_rules.specs.declared.verdict.Verdict.{Verdict}
-use Rattle.result_rules.specs.declared.verdict.Verdict.TheVariants.{Yes, No}
-use Rattle.result_rules.specs.Rules.{Accepts, IsRefused}
+use Rattle.result_rules.specs.declared.verdict.Verdict.TheVariants.{Yes}
 use Rattle.result_rules.specs.Valid.{Valid}
 use Rattle.result_rules.specs.Against.{its_rows, JudgesAgainst}
 use Rattle.dump_read.specs.declared.taking.Taken.{Taken}
@@ -13,22 +12,10 @@ use Rattle.dump_read.specs.Seen.{DumpsEnd}
 use Rattle.tor_words.specs.declared.check_settings.CheckSettings.{CheckSettings}
 use Rattle.tor_words.specs.CheckGiven.{check_settings_given}
 use Rattle.run_base.specs.Reading.{nothing, seen_from}
-use Rattle.torcheck_run.specs.Limits.{max_result}
+use Rattle.result_file.specs.Limits.{max_result}
+use Rattle.result_file.specs.Ruled.{BreaksRule, IsAccepted}
 use Rattle.tor_arena.specs.Limits.{max_paths}
 use Rattle.run_base.specs.WholeFile.{IsFile, IsLongFile, LeavesRest, LeavesOnly}
-
--- ---- the rules 0 to 10, which the octets of the result file alone decide
-
--- the octets are the text of this result, which meets the rules 1 to 10
-pub record IsAccepted (file : ResultFile) (bytes : List ℕ) : Type 0 where
-  pub text : IsTextOf file bytes
-  pub rules : Accepts file
-
--- rule 0 says that the octets are a text. The least rule that is broken, and its first line
-abbrev pub BreaksRule : List ℕ → Verdict → Type 0
-BreaksRule bytes Yes = ⊥
-BreaksRule bytes (No line rule) =
-    ((rule ≡ 0) × IsBadLine line bytes) ⊎ ((file : ResultFile) × IsTextOf file bytes × IsRefused file line rule)
 
 -- ---- rule 11, agreement with dumps
 

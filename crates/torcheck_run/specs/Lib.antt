@@ -1,12 +1,5 @@
-pub mod AskedOpening
-pub mod Asking
 pub mod CheckAnswer
-pub mod FileText
 pub mod Judging
-pub mod Limits
 pub mod Opening
 pub mod Reach
-pub mod Ruled
-pub mod Saying
 pub mod Unjudging
-pub mod Unsaying

@@ -16,9 +16,9 @@ use Rattle.run_base.specs.Opening.{Named, FilesEnd, AllRead, EndedAt, EndsSo, Re
 use Rattle.run_base.specs.Reading.{nothing, IsOfSomeDumps}
 use Rattle.torcheck_run.specs.declared.judging.Unjudged.{Unjudged}
 use Rattle.torcheck_run.specs.declared.judging.Unjudged.TheVariants as unjudged
-use Rattle.torcheck_run.specs.CheckAnswer.{verdict_text}
-use Rattle.torcheck_run.specs.Judging.{BreaksRule, IsAccepted}
-use Rattle.torcheck_run.specs.Limits.{max_result}
+use Rattle.result_file.specs.VerdictText.{verdict_text}
+use Rattle.result_file.specs.Ruled.{BreaksRule, IsAccepted}
+use Rattle.result_file.specs.Limits.{max_result}
 
 -- ---- which files
 

@@ -13,7 +13,8 @@ use Rattle.run_base.specs.Notes.{malformed_note, limit_note, read_fault_note}
 use Rattle.run_base.specs.Reach.{IsDumpInReach, IsRefusalInReach}
 use Rattle.torcheck_run.specs.declared.judging.Unjudged.{Unjudged}
 use Rattle.torcheck_run.specs.declared.judging.Unjudged.TheVariants as unjudged
-use Rattle.torcheck_run.specs.CheckAnswer.{KnownFilesGive, result_note}
+use Rattle.torcheck_run.specs.CheckAnswer.{KnownFilesGive}
+use Rattle.result_file.specs.Limits.{result_note}
 use Rattle.torcheck_run.specs.Judging.{TooLong, LeavesOnlyResult}
 
 -- so it is where there is no verdict since the reading of the dumps stopped

@@ -17,9 +17,10 @@ use Rattle.run_base.specs.declared.whole_file.Unread.TheVariants as unread
 use Rattle.torcheck_run.specs.declared.judging.Unjudged.{Unjudged}
 use Rattle.torcheck_run.specs.declared.judging.Unjudged.TheVariants as unjudged
 use Rattle.run_base.specs.Answers.{Answers, AnswersUnread, IsReadFault, IsOfWords}
-use Rattle.torcheck_run.specs.Judging.{IsAccepted, IsResult, seen_for}
+use Rattle.result_file.specs.Ruled.{IsAccepted}
+use Rattle.torcheck_run.specs.Judging.{IsResult, seen_for}
 use Rattle.run_base.specs.WholeFile.{IsLongFile}
-use Rattle.torcheck_run.specs.Limits.{max_result}
+use Rattle.result_file.specs.Limits.{max_result}
 
 -- the octets meet the rules 0 to 10, and the dumps, where the files are known, have this end
 abbrev pub DumpsEndWith : List ℕ → List (List ℕ) → Option Files → DumpsEnd → Type 0

@@ -17,10 +17,11 @@ ghost use Rattle.torcheck_run.specs.Opening.{CheckEndsSo, GainsVerdictOfSome, Ga
 ghost use Rattle.torcheck_run.specs.Reach.{CheckEndsInReach};
 ghost use Rattle.torcheck_run.specs.Judging.{NoResult, TooLong, Ends, WordsGive, IsVouched, CanBeJudged, LeavesRestOf};
 ghost use Rattle.torcheck_run.specs.CheckAnswer.{GainsVerdict, GainsNo, GainsVerdictPrefix, KnownFilesGive, LeadsToMalformed, LeadsToLimit};
-ghost use Rattle.torcheck_run.specs.CheckAnswer.{LeadsToAbsent, IsCheckNote, verdict_text, status_of};
+ghost use Rattle.torcheck_run.specs.CheckAnswer.{LeadsToAbsent, IsCheckNote, status_of};
+ghost use Rattle.result_file.specs.VerdictText.{verdict_text};
 
 use crate::judging::{answer_to_unjudged, verdict_of};
-use crate::verdicts::{status_of, verdict_text};
+use result_file::verdict_text;
 use result_rules::{Verdict, acceptance_law};
 use result_text::one_value;
 use run_base::{Answer, Status};
@@ -28,6 +29,18 @@ use std::alloc::Global;
 use tor_arena::{Keys, List};
 use tor_io::{Failed, Shelf, Sink, write_all};
 use tor_words::Name;
+
+/// The status of a run that has written this verdict.
+fn status_of(verdict: Verdict) -> Status
+    ensures status { result ≡ status_of verdict }
+    ensures whole { result ≢ Status.WriteFault }
+    ensures known { result ≢ Status.NoMemory }
+{
+    match verdict {
+        Verdict::Yes => Status::Done,
+        Verdict::No { .. } => Status::No,
+    }
+}
 
 /// Writes the verdict. All memory is taken before.
 fn write_verdict<O: Sink>(alloc: Global, verdict: Verdict, out: &mut O) -> Answer

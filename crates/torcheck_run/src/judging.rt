@@ -15,13 +15,13 @@ ghost use Rattle.torcheck_run.specs.CheckAnswer.{KnownFilesGive};
 ghost use Rattle.result_rules.specs.File.{its_givens, most_lines};
 ghost use Rattle.run_base.specs.Reach.{IsDumpInReach, IsRefusalInReach};
 ghost use Rattle.torcheck_run.specs.Reach.{IsUnjudgedInReach, StaysUnjudgedInReach};
-ghost use Rattle.torcheck_run.specs.Ruled.{IsRuling, IsOfFewLines};
+ghost use Rattle.result_file.specs.Ruled.{IsRuling, IsOfFewLines};
 ghost use Rattle.torcheck_run.specs.Unjudging.{IsRefusedBy, IsUnjudged, IsUnjudgedIn, IsTooLong, IsFailedResult};
 ghost use Rattle.torcheck_run.specs.Unjudging.{IsFailedRead, IsOfCheckWords, AnswersUnjudged};
-ghost use Rattle.torcheck_run.specs.Limits.{max_result};
+ghost use Rattle.result_file.specs.Limits.{max_result};
 
-use crate::ruling::{Ruling, ruling_of_file};
 use rel_checker::check_against;
+use result_file::{Ruling, ruling_of_file};
 use result_rules::Verdict;
 use result_text::ResultFile;
 use run_base::{

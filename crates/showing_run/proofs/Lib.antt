@@ -1,0 +1,9 @@
+mod Answerings
+mod AskedAlways
+mod AskedBounds
+mod AskedComings
+mod AskedOpenings
+mod Tellings
+mod Unsayings
+mod Vectors
+mod Viewings

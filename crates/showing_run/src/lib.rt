@@ -1,0 +1,13 @@
+//! The runs that show something of a result: of `torwhy` why an edge or a path is what it is, of `torview` an AS with its neighbours; each
+//! from the words of the command line to the status. They stand on no crate of clauses, selection or marks.
+#![tactic(auto)]
+
+mod met;
+mod picture;
+mod tale;
+mod unsaid;
+mod view;
+mod why;
+
+pub use view::view;
+pub use why::why;
