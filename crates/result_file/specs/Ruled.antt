@@ -1,5 +1,5 @@
 -- What the rules 0 to 10 say of a result file.
-use Rattle.std.specs.Prelude.{◌≡◌, ◌≤◌, ◌⊎◌, ℕ, List, length, Option, None, Some, IfSome}
+use Rattle.std.specs.Prelude.{◌≡◌, ◌⊎◌, ℕ, List, Option, None, IfSome}
 use Rattle.tor_io.specs.Contents.{Files}
 use Rattle.result_text.specs.declared.file.ResultFile.{ResultFile}
 use Rattle.result_text.specs.Grammar.{IsTextOf, IsBadLine}
@@ -9,6 +9,7 @@ use Rattle.result_rules.specs.File.{HasFewLines}
 use Rattle.result_rules.specs.Rules.{Accepts, IsRefused}
 use Rattle.run_base.specs.declared.whole_file.Unread.{Unread}
 use Rattle.run_base.specs.declared.whole_file.Unread.TheVariants as unread
+use Rattle.run_base.specs.Programs.{HasOctets}
 use Rattle.run_base.specs.WholeFile.{IsLongFile}
 use Rattle.result_file.specs.declared.ruling.Ruling.{Ruling}
 use Rattle.result_file.specs.declared.ruling.Ruling.TheVariants as ruling
@@ -44,14 +45,9 @@ IsOfFewLines (ruling.Met file) = HasFewLines file
 
 -- ---- the file of a name
 
--- it has these octets, where the files are known, and they are few enough
-pub record HasOctets (known : Option Files) (name bytes : List ℕ) : Type 0 where
-  pub there : IfSome known (λ files. files name ≡ Some bytes)
-  pub short : length bytes ≤ max_result
-
 -- the ruling is that on its octets
 abbrev pub IsRulingIn : Option Files → List ℕ → Ruling → Type 0
-IsRulingIn known name r = (bytes : List ℕ) × HasOctets known name bytes × IsRuling bytes r
+IsRulingIn known name r = (bytes : List ℕ) × HasOctets known name max_result bytes × IsRuling bytes r
 
 -- there is no ruling on it for this: over a steady shelf it isn't there, or it has too many octets
 abbrev pub IsUnruled : Option Files → Type 0 → List ℕ → Unread → Type 0

@@ -55,22 +55,30 @@ module _ {S M R H : Type 0} (program : Program S M) (settings : S) (reads : Read
   to_reads : (P : Option Reads → Type 0) → P (Some reads) → P (program.reads settings)
   to_reads P is = subst P (sym is_reads) is
 
-  -- all was read
-  pub all_made : (r : R) (Failed : Type 0) (old mid new : H) → ReadsFirst h reads old mid → program.Gives settings (h.files old) (Makes (made_of r)) → program.end (made_of r) ≡ AllRead
-      → h.opens new ≡ h.opens mid ++ reads.dumps → IsAtEnd (h.left new) → ReadsShelf h Failed mid new → (Failed → ⊥) → Asks program settings h made_of (Ok r) old new
-  all_made r Failed old mid new first gives end opened at_end shelf never =
+  -- this was made of the files up to here
+  pub made_at : (r : R) (old new : H) → program.Gives settings (h.files old) (Makes (made_of r)) → OpensUpTo (named_in reads) (program.end (made_of r)) (h.opens old) (h.opens new)
+      → IsAtEnd (h.left new) → ReadsShelf h ⊥ old new → Asks program settings h made_of (Ok r) old new
+  made_at r old new gives opened at_end shelf =
       record {
         made = gives;
         stopped = tt;
         first = tt;
-        opens = to_reads (λ o. OpensInOrder (option_map named_in o) (λ e. e ≡ program.end (made_of r)) (h.opens old) (h.opens new))
-            (AllRead, sym end, opened ∙ ap (λ t. t ++ reads.dumps) first.opens ∙ append_assoc (h.opens old) (first_named (named_in reads).first) reads.dumps);
+        opens = to_reads (λ o. OpensInOrder (option_map named_in o) (λ e. e ≡ program.end (made_of r)) (h.opens old) (h.opens new)) (program.end (made_of r), refl, opened);
         opens_stop = tt;
         read_out = to_reads (λ o. IfSome o (λ _. IsAtEnd (h.left new))) at_end;
         reach = tt;
         untouched = not_none;
-        reads_shelf = calm Failed never (behind h reads old mid new Failed first shelf);
+        reads_shelf = shelf;
       }
+
+  -- all was read
+  pub all_made : (r : R) (Failed : Type 0) (old mid new : H) → ReadsFirst h reads old mid → program.Gives settings (h.files old) (Makes (made_of r)) → program.end (made_of r) ≡ AllRead
+      → h.opens new ≡ h.opens mid ++ reads.dumps → IsAtEnd (h.left new) → ReadsShelf h Failed mid new → (Failed → ⊥) → Asks program settings h made_of (Ok r) old new
+  all_made r Failed old mid new first gives end opened at_end shelf never =
+      made_at r old new gives
+      (subst (λ e. OpensUpTo (named_in reads) e (h.opens old) (h.opens new)) (sym end)
+      (opened ∙ ap (λ t. t ++ reads.dumps) first.opens ∙ append_assoc (h.opens old) (first_named (named_in reads).first) reads.dumps))
+      at_end (calm Failed never (behind h reads old mid new Failed first shelf))
     where
       calm : (Failed : Type 0) → (Failed → ⊥) → ReadsShelf h Failed old new → ReadsShelf h ⊥ old new
       calm Failed never shelf = record { keeps = shelf.keeps; rose = λ f. absurd f; quiet = λ _. shelf.quiet never }

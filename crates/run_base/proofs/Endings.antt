@@ -214,24 +214,24 @@ pub wrote : {S M R H O : Type 0} (program : Program S M) (settings : S) (h : she
     → EndsIn program settings h o answer.status (note_in answer) old new out after
 wrote program settings h o made_of r answer old new out after asks writes is = wrote_by program settings h o made_of r answer old new out after asks writes is writes.ends
 
--- a text without a note of its own, and the status that it asks for is Done
-pub writes_made : {S M O : Type 0} (program : Program S M) (settings : S) (o : sink.Ghosts O) (made : M) (answer : Answer) (old new : O) (text : List ℕ) → program.IsText settings made text []
-    → program.status made ≡ status.Done → (answer.status ≡ status.Done) ⊎ ((answer.status ≡ status.WriteFault) ⊎ (answer.status ≡ status.NoMemory))
-    → (answer.status ≡ status.Done → o.held new ≡ append_known (o.held old) text) → (answer.status ≡ status.WriteFault → GainsPrefix (o.held old) (o.held new) text)
+-- a text without a note of its own
+pub writes_made : {S M O : Type 0} (program : Program S M) (settings : S) (o : sink.Ghosts O) (made : M) (answer : Answer) (old new : O) (text : List ℕ) (s : Status) → program.IsText settings made text []
+    → plain_note s ≡ [] → program.status made ≡ s → (answer.status ≡ s) ⊎ ((answer.status ≡ status.WriteFault) ⊎ (answer.status ≡ status.NoMemory))
+    → (answer.status ≡ s → o.held new ≡ append_known (o.held old) text) → (answer.status ≡ status.WriteFault → GainsPrefix (o.held old) (o.held new) text)
     → (answer.status ≡ status.NoMemory → new ≡ old) → note_in answer ≡ plain_note answer.status → RunLeavesOut o answer.status old new → WritesMade program settings o made answer old new
-writes_made program settings o made answer old new text is done ends whole part nothing note leaves =
+writes_made program settings o made answer old new text s is silent done ends whole part nothing note leaves =
     record {
       ends = by ends;
       text = text;
       note = [];
       is_text = is;
-      done = λ e. (whole (e ∙ done), note ∙ ap plain_note (e ∙ done));
+      done = λ e. (whole (e ∙ done), note ∙ ap plain_note (e ∙ done) ∙ silent);
       cut_off = λ e. (part e, note ∙ ap plain_note e);
       nothing = λ e. (nothing e, note ∙ ap plain_note e);
       leaves_out = leaves;
     }
   where
-    by : (answer.status ≡ status.Done) ⊎ ((answer.status ≡ status.WriteFault) ⊎ (answer.status ≡ status.NoMemory))
+    by : (answer.status ≡ s) ⊎ ((answer.status ≡ status.WriteFault) ⊎ (answer.status ≡ status.NoMemory))
         → (answer.status ≡ program.status made) ⊎ ((answer.status ≡ status.WriteFault) ⊎ (answer.status ≡ status.NoMemory))
     by (inl e) = inl (e ∙ sym done)
     by (inr rest) = inr rest

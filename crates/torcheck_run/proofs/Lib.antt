@@ -1,7 +1,3 @@
-pub mod Always
-pub mod Bounds
 pub mod Comings
-pub mod Judgings
-pub mod Openings
-pub mod Reaching
-pub mod Unjudgings
+mod Judgements
+mod Stops

@@ -1,5 +1,2 @@
-pub mod CheckAnswer
+pub mod Checking
 pub mod Judging
-pub mod Opening
-pub mod Reach
-pub mod Unjudging

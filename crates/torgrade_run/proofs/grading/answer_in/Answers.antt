@@ -1,4 +1,5 @@
 use Rattle.std.proofs.Common.{refl}
+use Rattle.run_base.specs.declared.status.Status.TheVariants.{Done}
 use Rattle.run_base.proofs.Endings.{stopped, wrote, writes_made}
 use Rattle.torgrade_run.specs.Grading.{basis_of, grading, text_of}
 use Rattle.torgrade_run.proofs.grading.answer_in.Goals as goal
@@ -10,8 +11,8 @@ returns-in-Ok g c =
     let graded = c.in-Ok.graded in
     wrote grading settings g.H.Shelf g.O.Sink basis_of graded c.write_graded.result c.args.shelf.now c.graded_of.new.shelf c.args.out.now c.write_graded.new.out
     c.in-Ok.ensures.asks
-    (writes_made grading settings g.O.Sink (basis_of graded) c.write_graded.result c.args.out.now c.write_graded.new.out (text_of graded)
-    (graded.known.cone, c.in-Ok.ensures.cone, refl, refl) refl w.status w.done w.cut_off w.nothing w.note w.leaves_out)
+    (writes_made grading settings g.O.Sink (basis_of graded) c.write_graded.result c.args.out.now c.write_graded.new.out (text_of graded) Done
+    (graded.known.cone, c.in-Ok.ensures.cone, refl, refl) refl refl w.status w.done w.cut_off w.nothing w.note w.leaves_out)
     (λ e. absurd cc, λ e. absurd cc, λ e. absurd cc)
 
 pub returns-in-Err : goal.returns-in-Err
