@@ -12,7 +12,10 @@ use Rattle.tor_words.specs.declared.settings.Settings.{Settings}
 use Rattle.tor_words.specs.declared.check_settings.CheckSettings.{CheckSettings}
 use Rattle.tor_words.specs.CheckGiven.{check_settings_given}
 use Rattle.tor_words.specs.Given.{settings_given}
-use Rattle.torcheck_run.specs.Judging.{CanBeJudged, IsVerdict, Outcome, SettingsGive}
+use Rattle.run_base.specs.Programs.{Outcome}
+use Rattle.torcheck_run.specs.declared.judging.Judged.{Judged}
+use Rattle.torcheck_run.specs.Checking.{GivesOutcome}
+use Rattle.torcheck_run.specs.Judging.{CanBeJudged, IsVerdict}
 use Rattle.result_file.specs.Limits.{max_result}
 use Rattle.tor_output.specs.First.{Earlier, TakesUp}
 use Rattle.tor_output.specs.Output.{Faithful, IsOutput, migrated}
@@ -54,4 +57,5 @@ MigrateLaw =
     (file : ResultFile) (before after : List ℕ) → IsTextOf file before → IsTextOf (migrated file) after →
     ((givens : List Given) → file.givens ≡ Some givens → after ≡ before) ×
     ((check : CheckSettings) (files later : Files) → files check.result ≡ Some before → later check.result ≡ Some after →
-    KeepDumps check.dumps files later → (outcome : Outcome) → SettingsGive check files outcome ↔ SettingsGive check later outcome)
+    KeepDumps check.dumps files later → (outcome : Outcome Judged) →
+    GivesOutcome check (Some files) outcome ↔ GivesOutcome check (Some later) outcome)

@@ -13,8 +13,9 @@ use Rattle.tor_words.specs.declared.grade_settings.GradeSettings.{GradeSettings}
 use Rattle.tor_words.specs.declared.settings.Mode.TheVariants.{Serial}
 use Rattle.tor_words.specs.Given.{settings_given}
 use Rattle.tor_words.specs.GradeGiven.{grade_settings_given}
-use Rattle.torgrade_run.specs.GradeAnswer.{IsGraded}
+use Rattle.run_base.specs.Programs.{Makes}
 use Rattle.torgrade_run.specs.GradeText.{is_free, grades_of, grades_text, totals_of}
+use Rattle.torgrade_run.specs.Grading.{Basis, GivesGrading, IsGrading}
 use Rattle.tor_output.specs.Grading.{GradesExactly}
 use Rattle.tor_output.specs.Seen.{ComesTo, Reads}
 
@@ -42,5 +43,6 @@ SelfGradingLaw =
     GradesExactly (unwrap_or known []) (row_paths taken.table.rows) rel →
     (grade_words : List (List ℕ)) (grading : GradeSettings) (later : Files) (text : List ℕ) →
     grade_settings_given grade_words ≡ Some grading → later grading.rel ≡ Some rel →
-    map later grading.dumps ≡ map files settings.dumps → IsGraded grade_words later text →
+    map later grading.dumps ≡ map files settings.dumps → (basis : Basis) (note : List ℕ) →
+    GivesGrading grading (Some later) (Makes basis) → IsGrading grading basis text note →
     IsGradedAsKept (unwrap_or known []) taken.table.rows text
