@@ -1,9 +1,5 @@
-mod Answerings
-mod AskedAlways
-mod AskedBounds
-mod AskedComings
-mod AskedOpenings
+mod Comings
+mod Showings
 mod Tellings
-mod Unsayings
 mod Vectors
 mod Viewings

@@ -12,7 +12,7 @@ use Rattle.telling.specs.declared.told.Told.TheVariants as told
 use Rattle.telling.specs.Told.{AnswersEdge, AnswersPath, IsLineOf, IsToldOfPath, edge_on}
 use Rattle.tor_words.specs.declared.why_settings.Asked.{Asked}
 use Rattle.tor_words.specs.declared.why_settings.Asked.TheVariants as asked
-use Rattle.showing_run.proofs.AskedComings.{NotBoth}
+use Rattle.showing_run.proofs.Comings.{NotBoth}
 use Rattle.showing_run.specs.Whys.{IsTold, telling}
 
 on_line : (file : ResultFile) (one other : ℕ) (line : EdgeLine) → IsLineOf file one other line → Contains (its_edges file) (edge_of one other)

@@ -1,5 +1,5 @@
 -- An AS is there or isn't.
-use Rattle.showing_run.proofs.AskedComings.{NotBoth}
+use Rattle.showing_run.proofs.Comings.{NotBoth}
 use Rattle.showing_run.specs.Views.{viewing}
 
 pub not_both : NotBoth viewing

@@ -1,6 +1,4 @@
-pub mod AskedOpening
 pub mod Asking
-pub mod Saying
-pub mod Unsaying
+pub mod Unmet
 pub mod Views
 pub mod Whys

@@ -10,6 +10,7 @@ use Rattle.drawing.specs.Xml.{IsDocument}
 use Rattle.tor_words.specs.declared.view_settings.ViewSettings.{ViewSettings}
 use Rattle.tor_words.specs.ViewGiven.{view_settings_given}
 use Rattle.showing_run.specs.Asking.{Asking}
+use Rattle.showing_run.specs.declared.picture.Picture.{Picture}
 
 -- one of the edges has this AS
 abbrev pub HasEdge : List EdgeLine → ℕ → Type 0
@@ -38,3 +39,7 @@ viewing = record {
   IsAnswer = IsSeen;
   absent = λ settings. absent_note settings.asked;
 }
+
+-- the result after which it is drawn
+abbrev pub its_result : Picture → ResultFile
+its_result picture = picture.file

@@ -41,3 +41,7 @@ telling = record {
 -- the text of what is told
 abbrev pub tale_text : Tale → List ℕ
 tale_text tale = told_text tale.file tale.told
+
+-- the result of which it is told
+abbrev pub its_result : Tale → ResultFile
+its_result tale = tale.file

@@ -2,12 +2,11 @@
 //! from the words of the command line to the status. They stand on no crate of clauses, selection or marks.
 #![tactic(auto)]
 
+mod explaining;
 mod met;
 mod picture;
 mod tale;
-mod unsaid;
-mod view;
-mod why;
+mod viewing;
 
-pub use view::view;
-pub use why::why;
+pub use explaining::why;
+pub use viewing::view;

@@ -1,28 +1,24 @@
-//! What is told of the result that the words name, and its text, written to out.
-ghost use Rattle.std.specs.Prelude.{◌≡◌, ◌⊎◌, ◌++◌, ◌∷◌, [], Some, IfOk, IfErr, OnOk, IsNone, IsErrAnd, string_bytes};
-ghost use Rattle.std.specs.Io.KnownBytes.{IsAtEnd, append_known};
+//! What is told of a result, and its text, written to out.
+ghost use Rattle.std.specs.Prelude.{◌≡◌, ◌⊎◌, Some, IfOk, IfErr, string_bytes};
+ghost use Rattle.std.specs.Io.KnownBytes.{append_known};
 ghost use Rattle.tor_io.specs.Contents.{GainsPrefix};
 ghost use Rattle.result_rules.specs.Rules.{Accepts};
-ghost use Rattle.tor_words.specs.WhyGiven.{why_settings_given};
 ghost use Rattle.run_base.specs.Answers.{note_in};
-ghost use Rattle.run_base.specs.Frames.{ReadsShelf, RunLeavesOut};
+ghost use Rattle.run_base.specs.Frames.{RunLeavesOut};
 ghost use Rattle.run_base.specs.Notes.{plain_note};
-ghost use Rattle.run_base.specs.Opening.{OpensInOrder, AllRead};
-ghost use Rattle.showing_run.specs.AskedOpening.{UnsaidEnds, files_asked};
-ghost use Rattle.showing_run.specs.Asking.{Says, Gives, GivesIn};
-ghost use Rattle.showing_run.specs.Unsaying.{SaysAbsent, IsUnanswered, IsUnmetInReach, IsUnsaidIn, IsUnsaid, IsUnsaidInReach};
-ghost use Rattle.showing_run.specs.Unsaying.{IsFailedRead, IsOfAskingWords};
-ghost use Rattle.showing_run.specs.Whys.{IsTold, absent_note, question_of, tale_text, telling};
+ghost use Rattle.run_base.specs.Stopping.{Asks};
+ghost use Rattle.showing_run.specs.Asking.{showing};
+ghost use Rattle.showing_run.specs.Unmet.{SaysAbsent, IsUnanswered};
+ghost use Rattle.showing_run.specs.Whys.{IsTold, absent_note, its_result, question_of, tale_text, telling};
 
 use crate::met::result_met;
-use crate::unsaid::Unsaid;
 use result_text::ResultFile;
-use run_base::{Answer, Status, Unread};
+use run_base::{Answer, Status, Stop};
 use std::alloc::{AllocError, Global};
 use telling::{Question, Told, tell, write_told};
-use tor_arena::{Keys, List, NoMemory};
+use tor_arena::{Keys, NoMemory};
 use tor_io::{Buffer, Failed, Shelf, Sink};
-use tor_words::{Asked, Name, WhySettings, why_settings_of};
+use tor_words::{Asked, WhySettings};
 
 /// What is told, and of which result.
 #[derive(Drop)]
@@ -58,12 +54,12 @@ fn absent_note(alloc: Global, asked: Asked) -> Result<String, AllocError>
 }
 
 // Why nothing is told of a result that has no such edge, or no such path.
-fn absent(alloc: Global, asked: Asked) -> Unsaid
+fn absent(alloc: Global, asked: Asked) -> Stop
     ensures { SaysAbsent (absent_note asked) result }
 {
     match absent_note(alloc, asked) {
-        Ok(note) => Unsaid::Absent(note),
-        Err(AllocError) => Unsaid::Result(Unread::NoMemory),
+        Ok(note) => Stop::Lacks(note),
+        Err(AllocError) => Stop::NoMemory,
     }
 }
 
@@ -73,64 +69,32 @@ fn tale_of(
     keys: Keys,
     settings: &WhySettings,
     file: ResultFile,
-) -> Result<Tale, Unsaid>
+) -> Result<Tale, Stop>
     requires accepted { Accepts file }
-    ensures told { IfOk result (λ tale. IsTold settings.now file (Some (tale_text tale))) }
+    ensures same { IfOk result (λ tale. tale.file ≡ file) }
+    ensures told { IfOk result (λ tale. IsTold settings.now tale.file (Some (tale_text tale))) }
     ensures untold { IfErr result (IsUnanswered telling settings.now file) }
 {
     match tell(alloc, keys, &file, question_of(settings.asked)) {
         Ok(Some(told)) => Ok(Tale { file, told }),
         Ok(None) => Err(absent(alloc, settings.asked)),
-        Err(NoMemory) => Err(Unsaid::Result(Unread::NoMemory)),
+        Err(NoMemory) => Err(Stop::NoMemory),
     }
 }
 
-// What is told with these settings.
-fn told_in<H: Shelf>(
+/// What is told with these settings.
+pub(crate) fn told_in<H: Shelf>(
     alloc: Global,
     keys: Keys,
     settings: &WhySettings,
     shelf: &mut H,
-) -> Result<Tale, Unsaid>
-    ensures told { IfOk result (λ tale. GivesIn telling (H.files shelf.old) settings.now (Says (tale_text tale))) }
-    ensures untold { IfErr result (IsUnsaidIn telling (H.files shelf.old) (H.steady shelf.old) settings.now) }
-    ensures no_words { IfErr result (λ u. IsOfAskingWords u → ⊥) }
-    ensures reach { IfErr result (IsUnmetInReach (H.files shelf.old) (H.left shelf.new) settings.now.result) }
-    ensures read_out { OnOk result (IsAtEnd (H.left shelf.new)) }
-    ensures opens { H.opens shelf.new ≡ H.opens shelf.old ++ settings.now.result ∷ [] }
-
-    ensures reads_shelf { ReadsShelf H.Shelf (IsErrAnd result IsFailedRead) shelf.old shelf.new }
+) -> Result<Tale, Stop>
+    ensures asks { Asks (showing telling) settings.now H.Shelf its_result result shelf.old shelf.new }
+    ensures told { IfOk result (λ tale. IsTold settings.now tale.file (Some (tale_text tale))) }
 {
     match result_met(alloc, keys, shelf, settings.result.as_text()) {
         Ok(file) => tale_of(alloc, keys, settings, file),
-        Err(unsaid) => Err(unsaid),
-    }
-}
-
-/// What the words ask for.
-pub(crate) fn told_asked<H: Shelf>(
-    alloc: Global,
-    keys: Keys,
-    words: &List<Name>,
-    shelf: &mut H,
-) -> Result<Tale, Unsaid>
-    ensures told { IfOk result (λ tale. Gives telling words.now (H.files shelf.old) (Says (tale_text tale))) }
-    ensures untold { IfErr result (IsUnsaid telling words.now (H.files shelf.old) (H.steady shelf.old)) }
-    ensures reach { IfErr result (IsUnsaidInReach telling words.now (H.files shelf.old) (H.left shelf.new)) }
-
-    ensures settled { IsNone (why_settings_given words.now) → IsErrAnd result IsOfAskingWords }
-    ensures read_out { OnOk result (IsAtEnd (H.left shelf.new)) }
-
-    ensures opens { OnOk result (
-        OpensInOrder (files_asked telling words.now) (λ end. end ≡ AllRead) (H.opens shelf.old) (H.opens shelf.new)) }
-    ensures opens_stop { IfErr result (λ u.
-        OpensInOrder (files_asked telling words.now) (UnsaidEnds u) (H.opens shelf.old) (H.opens shelf.new)) }
-    ensures untouched { IfErr result (λ u. IsOfAskingWords u → shelf.new ≡ shelf.old) }
-    ensures reads_shelf { ReadsShelf H.Shelf (IsErrAnd result IsFailedRead) shelf.old shelf.new }
-{
-    match why_settings_of(alloc, words) {
-        Ok(settings) => told_in(alloc, keys, &settings, shelf),
-        Err(refused) => Err(Unsaid::Words(refused)),
+        Err(stop) => Err(stop),
     }
 }
 
