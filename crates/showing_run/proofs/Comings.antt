@@ -10,7 +10,7 @@ use Rattle.run_base.proofs.Values as values
 use Rattle.result_file.specs.Limits.{max_result}
 use Rattle.result_file.specs.Ruled.{BreaksRule}
 use Rattle.result_file.proofs.OneRuling.{OneValue, none_broken, one_broken, same_file}
-use Rattle.showing_run.specs.Asking.{Asking, IsMet, Shows, showing}
+use Rattle.showing_run.specs.Asking.{Asking, HoldsMet, GivesAnswer, showing}
 
 -- what is asked for is there or isn't
 abbrev pub NotBoth : {S : Type 0} → Asking S → Type 0
@@ -35,12 +35,12 @@ module _ (law : OneValue) (files : Files) (name : List ℕ) where
   same_octets : (a b : List ℕ) → Has a → Has b → a ≡ b
   same_octets a b one other = values.some_is (files name) a b one.there other.there
 
-  one_met : (f g : ResultFile) → IsMet (Some files) name f → IsMet (Some files) name g → f ≡ g
+  one_met : (f g : ResultFile) → HoldsMet (Some files) name f → HoldsMet (Some files) name g → f ≡ g
   one_met f g one other =
       same_file law one.0 f g one.2.text (subst (IsTextOf g) (same_octets other.0 one.0 other.1 one.1) other.2.text)
 
   -- a result that meets the rules breaks none
-  met_broken : {X : Type 0} (file : ResultFile) (line rule : ℕ) → IsMet (Some files) name file → Breaking line rule → X
+  met_broken : {X : Type 0} (file : ResultFile) (line rule : ℕ) → HoldsMet (Some files) name file → Breaking line rule → X
   met_broken file line rule met broken =
       absurd (none_broken law met.0 file (No line rule) met.2 (subst (λ b. BreaksRule b (No line rule)) (same_octets broken.0 met.0 broken.1 met.1) broken.2))
 
@@ -56,11 +56,11 @@ module _ {S : Type 0} (ask : Asking S) (law : OneValue) (not_both : NotBoth ask)
   its_name = ask.result settings
 
   -- what is asked for is there, or it isn't
-  said_lacked : {X : Type 0} (f g : ResultFile) (text : List ℕ) → IsMet (Some files) its_name f → IsMet (Some files) its_name g → ask.IsAnswer settings f (Some text)
+  said_lacked : {X : Type 0} (f g : ResultFile) (text : List ℕ) → HoldsMet (Some files) its_name f → HoldsMet (Some files) its_name g → ask.IsAnswer settings f (Some text)
       → ask.IsAnswer settings g None → X
   said_lacked f g text one other says lacks = absurd (not_both settings f text (subst (λ x. ask.IsAnswer settings x None) (one_met law files its_name g f other one) lacks) says)
 
-  same : (x y : Outcome ResultFile) → Shows ask settings (Some files) x → Shows ask settings (Some files) y → x ≡ y
+  same : (x y : Outcome ResultFile) → GivesAnswer ask settings (Some files) x → GivesAnswer ask settings (Some files) y → x ≡ y
   same (Makes f) (Makes g) one other = ap Makes (one_met law files its_name f g one.0 other.0)
   same (Makes f) NoFile one other = not_there law files its_name one.0.0 one.0.1 other
   same (Makes f) TooLong one other = not_long law files its_name one.0.0 one.0.1 other

@@ -16,8 +16,8 @@ use Rattle.run_base.specs.Promises.{MayEnd}
 use Rattle.run_base.specs.Stopping.{Asks, IsFailedCall, ending_of}
 use Rattle.run_base.proofs.Askings.{ReadsFirst, all_made, first_stopped, first_unread}
 use Rattle.result_file.specs.Limits.{max_result}
-use Rattle.showing_run.specs.Asking.{Asking, IsMet, showing}
-use Rattle.showing_run.specs.Unmet.{IsUnmet, IsUnmetInReach, IsUnanswered, SaysAbsent}
+use Rattle.showing_run.specs.Asking.{Asking, HoldsMet, showing}
+use Rattle.showing_run.specs.Unmet.{HoldsNone, HoldsNoneInReach, IsUnanswered, SaysAbsent}
 
 -- the note says that it isn't there, and so it is
 pub absent_unanswered : {S : Type 0} (ask : Asking S) (settings : S) (file : ResultFile) (e : Stop) → ask.IsAnswer settings file None → SaysAbsent (ask.absent settings) e
@@ -48,17 +48,17 @@ module _ {S R H : Type 0} (ask : Asking S) (settings : S) (h : shelf.Ghosts H) (
 
   -- ---- the file holds no result that meets the rules
 
-  unmet_by : (e : Stop) → IsUnmet (h.files old) (h.steady old) its_first.name e → IsUnmetInReach (h.files old) (h.left new) its_first.name e → Opens its_first.name
+  unmet_by : (e : Stop) → HoldsNone (h.files old) (h.steady old) its_first.name e → HoldsNoneInReach (h.files old) (h.left new) its_first.name e → Opens its_first.name
       → ReadsShelf h (IsFailedCall e) old new → Asks (showing ask) settings h made_of (Err e) old new
   unmet_by (stop.First file u) unmet reach opened shelf =
       first_unread (showing ask) settings its_reads refl h made_of its_first file u old new refl (sym (kind u unmet)) (why u unmet) opened reach.1 reach.0 shelf
     where
-      kind : (u : Unread) → IsUnmet (h.files old) (h.steady old) its_first.name (stop.First file u) → file ≡ result_file
+      kind : (u : Unread) → HoldsNone (h.files old) (h.steady old) its_first.name (stop.First file u) → file ≡ result_file
       kind unread.Failed unmet = unmet.0
       kind unread.TooLong unmet = unmet.0
       kind unread.NoMemory unmet = unmet
 
-      why : (u : Unread) → IsUnmet (h.files old) (h.steady old) its_first.name (stop.First file u)
+      why : (u : Unread) → HoldsNone (h.files old) (h.steady old) its_first.name (stop.First file u)
           → MayEnd (showing ask) settings (h.files old) (h.steady old) (ending_of {M = ResultFile} (stop.First file u))
       why unread.Failed unmet = record { named = refl; before = tt; absent = unmet.1 }
       why unread.TooLong unmet = unmet.1
@@ -70,21 +70,21 @@ module _ {S R H : Type 0} (ask : Asking S) (settings : S) (h : shelf.Ghosts H) (
   unmet_by (stop.Dumps stopped) unmet reach opened shelf = absurd unmet
   unmet_by stop.NoMemory unmet reach opened shelf = absurd unmet
 
-  pub unmet_asks : (name : List ℕ) (e : Stop) → name ≡ ask.result settings → IsUnmet (h.files old) (h.steady old) name e → IsUnmetInReach (h.files old) (h.left new) name e → Opens name
+  pub unmet_asks : (name : List ℕ) (e : Stop) → name ≡ ask.result settings → HoldsNone (h.files old) (h.steady old) name e → HoldsNoneInReach (h.files old) (h.left new) name e → Opens name
       → ReadsShelf h (IsFailedCall e) old new → Asks (showing ask) settings h made_of (Err e) old new
   unmet_asks name e same unmet reach opened shelf =
-      unmet_by e (subst (λ n. IsUnmet (h.files old) (h.steady old) n e) same unmet) (subst (λ n. IsUnmetInReach (h.files old) (h.left new) n e) same reach) (subst Opens same opened) shelf
+      unmet_by e (subst (λ n. HoldsNone (h.files old) (h.steady old) n e) same unmet) (subst (λ n. HoldsNoneInReach (h.files old) (h.left new) n e) same reach) (subst Opens same opened) shelf
 
   -- ---- it holds one
 
   abbrev Answers : Result R Stop → ResultFile → Type 0
   Answers r file = IfOk r (λ t. (made_of t ≡ file) × ((text : List ℕ) × ask.IsAnswer settings (made_of t) (Some text))) × IfErr r (IsUnanswered ask settings file)
 
-  answered_by : (r : Result R Stop) (file : ResultFile) → IsMet (h.files old) its_first.name file → IsAtEnd (h.left new) → Opens its_first.name → ReadsShelf h ⊥ old new → Answers r file
+  answered_by : (r : Result R Stop) (file : ResultFile) → HoldsMet (h.files old) its_first.name file → IsAtEnd (h.left new) → Opens its_first.name → ReadsShelf h ⊥ old new → Answers r file
       → Asks (showing ask) settings h made_of r old new
   answered_by (Ok t) file met end opened shelf answers =
       all_made (showing ask) settings its_reads refl h made_of t ⊥ old new new (whole opened shelf)
-      (subst (IsMet (h.files old) its_first.name) (sym answers.0.0) met, answers.0.1) refl (sym (append-nil (h.opens new))) end (as_is new) (λ f. f)
+      (subst (HoldsMet (h.files old) its_first.name) (sym answers.0.0) met, answers.0.1) refl (sym (append-nil (h.opens new))) end (as_is new) (λ f. f)
   answered_by (Err e) file met end opened shelf answers = lacking e answers.1
     where
       lacking : (e : Stop) → IsUnanswered ask settings file e → Asks (showing ask) settings h made_of (Err e) old new
@@ -96,11 +96,11 @@ module _ {S R H : Type 0} (ask : Asking S) (settings : S) (h : shelf.Ghosts H) (
       lacking (stop.Dumps stopped) is = absurd is
       lacking stop.NoMemory is = first_stopped (showing ask) settings its_reads refl h made_of its_first stop.NoMemory old new refl (whole opened shelf) tt tt tt tt (λ f. f)
 
-  pub answered_asks : (name : List ℕ) (r : Result R Stop) (file : ResultFile) → name ≡ ask.result settings → IsMet (h.files old) name file → IsAtEnd (h.left new) → Opens name
+  pub answered_asks : (name : List ℕ) (r : Result R Stop) (file : ResultFile) → name ≡ ask.result settings → HoldsMet (h.files old) name file → IsAtEnd (h.left new) → Opens name
       → ReadsShelf h ⊥ old new → IfOk r (λ t. made_of t ≡ file) → IfOk r (λ t. (text : List ℕ) × ask.IsAnswer settings (made_of t) (Some text)) → IfErr r (IsUnanswered ask settings file)
       → Asks (showing ask) settings h made_of r old new
   answered_asks name r file same met end opened shelf is some none =
-      answered_by r file (subst (λ n. IsMet (h.files old) n file) same met) end (subst Opens same opened) shelf (both r is some, none)
+      answered_by r file (subst (λ n. HoldsMet (h.files old) n file) same met) end (subst Opens same opened) shelf (both r is some, none)
     where
       both : (r : Result R Stop) → IfOk r (λ t. made_of t ≡ file) → IfOk r (λ t. (text : List ℕ) × ask.IsAnswer settings (made_of t) (Some text))
           → IfOk r (λ t. (made_of t ≡ file) × ((text : List ℕ) × ask.IsAnswer settings (made_of t) (Some text)))

@@ -25,32 +25,33 @@ reads_in ask settings =
     Some (record { first = Some (record { name = ask.result settings; most = max_result; kind = Result }); dumps = [] })
 
 -- the file of this name, as far as it is known, holds this result, which meets the rules 0 to 10
-abbrev pub IsMet : Option Files → List ℕ → ResultFile → Type 0
-IsMet known name file = (bytes : List ℕ) × HasOctets known name max_result bytes × IsAccepted file bytes
+abbrev pub HoldsMet : Option Files → List ℕ → ResultFile → Type 0
+HoldsMet known name file = (bytes : List ℕ) × HasOctets known name max_result bytes × IsAccepted file bytes
 
 -- what the settings and the file come to: a result of which a text answers; or what is asked for isn't there, as the note says
-abbrev pub Shows : {S : Type 0} → Asking S → S → Option Files → Outcome ResultFile → Type 0
-Shows ask settings known (Makes file) = IsMet known (ask.result settings) file × ((text : List ℕ) × ask.IsAnswer settings file (Some text))
-Shows ask settings known NoFile = IsAbsent known (ask.result settings)
-Shows ask settings known TooLong = IsTooLong known (ask.result settings) max_result
-Shows ask settings known (BadLine line) = ⊥
-Shows ask settings known (Breaks line rule) =
+abbrev pub GivesAnswer : {S : Type 0} → Asking S → S → Option Files → Outcome ResultFile → Type 0
+GivesAnswer ask settings known (Makes file) =
+    HoldsMet known (ask.result settings) file × ((text : List ℕ) × ask.IsAnswer settings file (Some text))
+GivesAnswer ask settings known NoFile = IsAbsent known (ask.result settings)
+GivesAnswer ask settings known TooLong = IsTooLong known (ask.result settings) max_result
+GivesAnswer ask settings known (BadLine line) = ⊥
+GivesAnswer ask settings known (Breaks line rule) =
     (bytes : List ℕ) × HasOctets known (ask.result settings) max_result bytes × BreaksRule bytes (No line rule)
-Shows ask settings known (Lacks note) =
-    (note ≡ ask.absent settings) × ((file : ResultFile) × IsMet known (ask.result settings) file × ask.IsAnswer settings file None)
-Shows ask settings known (Ends end) = ⊥
+GivesAnswer ask settings known (Lacks note) =
+    (note ≡ ask.absent settings) × ((file : ResultFile) × HoldsMet known (ask.result settings) file × ask.IsAnswer settings file None)
+GivesAnswer ask settings known (Ends end) = ⊥
 
 -- a text that answers is written, and nothing is noted
-abbrev pub IsShown : {S : Type 0} → Asking S → S → ResultFile → (text note : List ℕ) → Type 0
-IsShown ask settings file text note = ask.IsAnswer settings file (Some text) × (note ≡ [])
+abbrev pub IsWrittenAnswer : {S : Type 0} → Asking S → S → ResultFile → (text note : List ℕ) → Type 0
+IsWrittenAnswer ask settings file text note = ask.IsAnswer settings file (Some text) × (note ≡ [])
 
 abbrev pub showing : {S : Type 0} → Asking S → Program S ResultFile
 showing ask = record {
   given = ask.given;
   reads = reads_in ask;
-  Gives = Shows ask;
+  Gives = GivesAnswer ask;
   Before = λ settings known number. ⊤;
   status = λ file. Done;
   end = λ file. AllRead;
-  IsText = IsShown ask;
+  IsText = IsWrittenAnswer ask;
 }

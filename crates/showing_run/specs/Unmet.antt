@@ -15,24 +15,24 @@ use Rattle.result_file.specs.Ruled.{BreaksRule}
 use Rattle.showing_run.specs.Asking.{Asking}
 
 -- the file of this name holds no such result, for this
-abbrev pub IsUnmet : Option Files → (steady : Type 0) → List ℕ → Stop → Type 0
-IsUnmet known steady name (stop.First file unread.Failed) = (file ≡ result_file) × (steady → IsAbsent known name)
-IsUnmet known steady name (stop.First file unread.TooLong) = (file ≡ result_file) × IsTooLong known name max_result
-IsUnmet known steady name (stop.First file unread.NoMemory) = file ≡ result_file
-IsUnmet known steady name (stop.BadLine file line) = ⊥
-IsUnmet known steady name (stop.Broken line rule) =
+abbrev pub HoldsNone : Option Files → (steady : Type 0) → List ℕ → Stop → Type 0
+HoldsNone known steady name (stop.First file unread.Failed) = (file ≡ result_file) × (steady → IsAbsent known name)
+HoldsNone known steady name (stop.First file unread.TooLong) = (file ≡ result_file) × IsTooLong known name max_result
+HoldsNone known steady name (stop.First file unread.NoMemory) = file ≡ result_file
+HoldsNone known steady name (stop.BadLine file line) = ⊥
+HoldsNone known steady name (stop.Broken line rule) =
     (bytes : List ℕ) × HasOctets known name max_result bytes × BreaksRule bytes (No line rule)
-IsUnmet known steady name (stop.Lacks note) = ⊥
-IsUnmet known steady name (stop.Dumps stopped) = ⊥
-IsUnmet known steady name stop.NoMemory = ⊥
+HoldsNone known steady name (stop.Lacks note) = ⊥
+HoldsNone known steady name (stop.Dumps stopped) = ⊥
+HoldsNone known steady name stop.NoMemory = ⊥
 
 -- and so far it was read: whole where a rule is broken, of a file that is too long no more than shows it, and of one of which a read
 -- failed at most as much
-abbrev pub IsUnmetInReach : Option Files → (left : Option (List ℕ)) → List ℕ → Stop → Type 0
-IsUnmetInReach known left name (stop.First file why) =
+abbrev pub HoldsNoneInReach : Option Files → (left : Option (List ℕ)) → List ℕ → Stop → Type 0
+HoldsNoneInReach known left name (stop.First file why) =
     LeavesOnly max_result name known left × (why ≡ unread.TooLong → LeavesRest max_result name known left)
-IsUnmetInReach known left name (stop.Broken line rule) = IsAtEnd left
-IsUnmetInReach known left name _ = ⊤
+HoldsNoneInReach known left name (stop.Broken line rule) = IsAtEnd left
+HoldsNoneInReach known left name _ = ⊤
 
 -- what is asked for isn't there, as this text says, or memory ran out
 abbrev pub SaysAbsent : List ℕ → Stop → Type 0

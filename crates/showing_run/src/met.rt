@@ -3,8 +3,8 @@ ghost use Rattle.std.specs.Prelude.{◌≡◌, ◌++◌, ◌∷◌, [], IfOk, If
 ghost use Rattle.std.specs.Io.KnownBytes.{IsAtEnd};
 ghost use Rattle.run_base.specs.Frames.{ReadsShelf};
 ghost use Rattle.run_base.specs.Stopping.{IsFailedCall};
-ghost use Rattle.showing_run.specs.Asking.{IsMet};
-ghost use Rattle.showing_run.specs.Unmet.{IsUnmet, IsUnmetInReach};
+ghost use Rattle.showing_run.specs.Asking.{HoldsMet};
+ghost use Rattle.showing_run.specs.Unmet.{HoldsNone, HoldsNoneInReach};
 
 use result_file::{Ruling, ruling_of_file};
 use result_text::ResultFile;
@@ -20,9 +20,9 @@ pub(crate) fn result_met<H: Shelf>(
     shelf: &mut H,
     name: &str,
 ) -> Result<ResultFile, Stop>
-    ensures met { IfOk result (IsMet (H.files shelf.old) name.now) }
-    ensures unmet { IfErr result (IsUnmet (H.files shelf.old) (H.steady shelf.old) name.now) }
-    ensures reach { IfErr result (IsUnmetInReach (H.files shelf.old) (H.left shelf.new) name.now) }
+    ensures met { IfOk result (HoldsMet (H.files shelf.old) name.now) }
+    ensures unmet { IfErr result (HoldsNone (H.files shelf.old) (H.steady shelf.old) name.now) }
+    ensures reach { IfErr result (HoldsNoneInReach (H.files shelf.old) (H.left shelf.new) name.now) }
     ensures read_out { OnOk result (IsAtEnd (H.left shelf.new)) }
     ensures opens { H.opens shelf.new ≡ H.opens shelf.old ++ name.now ∷ [] }
 
