@@ -23,14 +23,11 @@ use Rattle.as_rel.specs.Grading.{IsGrade, grade, steps_on}
 use Rattle.as_rel.proofs.KeptLemmas.{free_exactly, never_unknown}
 use Rattle.tor_words.specs.declared.settings.Settings.{Settings}
 use Rattle.tor_words.specs.declared.grade_settings.GradeSettings.{GradeSettings}
-use Rattle.tor_words.specs.declared.settings.Source.{Source}
-use Rattle.tor_words.specs.declared.settings.Source.TheVariants as source
-use Rattle.tor_words.specs.declared.settings.Mode.{Mode}
-use Rattle.tor_words.specs.declared.settings.Mode.TheVariants.{Serial, Summary}
-use Rattle.tor_words.specs.Given.{BoundsLaw, IsWrittenOf}
+use Rattle.tor_words.specs.declared.task.Made.TheVariants.{Serial}
+use Rattle.tor_words.specs.Given.{BoundsLaw, dumps_in}
 use Rattle.torgrade_run.specs.GradeText.{is_free, is_unknown, cone_text, grades_of, grading_text, totals_of}
 use Rattle.torgrade_run.specs.Outcomes.{seen_by}
-use Rattle.tor_output.specs.Seen.{seen, seen_in}
+use Rattle.tor_output.proofs.SeenLemmas.{made_of_files}
 use Rattle.tor_output.proofs.WiderLimit.{widened, all_files}
 use Rattle.tor_output.proofs.Joining as joining
 use Rattle.run_laws.specs.SelfGrading.{SelfGradingLaw}
@@ -88,18 +85,10 @@ sees_all settings files taken dumps few cut sees =
     all_files settings.max_paths max_paths Cut 1 (nothing settings.max_paths) taken dumps files (record { same = refl; few = omega arith; less = few })
     (subst (λ (s : Sets). seen_from s 1 (nothing settings.max_paths) dumps files ≡ Ok taken) cut sees)
 
--- lines of serial-1 are written of files, and of no sample
-of_files : (source : Source) (mode : Mode) (settings : Settings) (files : Files) (taken : Taken) → IsWrittenOf source mode → mode ≡ Serial →
-    seen_in source settings files ≡ Ok taken → seen settings files ≡ Ok taken
-of_files source.Files mode settings files taken written is sees = sees
-of_files (source.Sample seed) mode settings files taken written is sees = let e : Serial ≡ Summary = sym is ∙ written in absurd (cc e)
-of_files (source.Result name) mode settings files taken written is sees = sees
-of_files (source.Earlier name) mode settings files taken written is sees = sees
-
 pub self_grading : BoundsLaw → SelfGradingLaw
 self_grading bounds words settings files known taken rel given serial cut comes_to exact grade_words grading later text graded_given there dumps is =
-    let sees = joining.seen_by settings.sets 1 (nothing settings.max_paths) grading.dumps settings.dumps later files dumps
-    ∙ of_files settings.source settings.mode settings files taken (bounds words settings given).written serial comes_to.1 in
+    let sees = joining.seen_by settings.sets 1 (nothing settings.max_paths) grading.dumps (dumps_in settings) later files dumps
+    ∙ made_of_files settings.job Serial settings files taken serial comes_to.1 in
     let (g, g_given, comes) = is.reads in
     let (bytes, is_rel, read, gave) = comes in
     let same : g ≡ grading = same_Some g grading (sym g_given ∙ graded_given) in

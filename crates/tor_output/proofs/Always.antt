@@ -5,20 +5,15 @@ use Rattle.tor_arena.specs.Growth.{one_more}
 use Rattle.tor_io.specs.Counts.{Rose, IsQuiet}
 use Rattle.tor_io.specs.Contents.{Files}
 use Rattle.dump_read.specs.Seen.{Absent, Malformed, Limit}
-use Rattle.tor_words.specs.declared.settings.Mode.{Mode}
-use Rattle.tor_words.specs.declared.settings.Mode.TheVariants.{Resume}
 use Rattle.tor_words.specs.declared.settings.Settings.{Settings}
-use Rattle.tor_words.specs.declared.settings.Source.{Source}
-use Rattle.tor_words.specs.declared.settings.Source.TheVariants as source
-use Rattle.tor_words.specs.Given.{BoundsLaw, IsWrittenOf, settings_given}
+use Rattle.tor_words.specs.Given.{settings_given}
 use Rattle.run_base.specs.declared.status.Status.{Status}
 use Rattle.run_base.specs.declared.status.Status.TheVariants as status
 use Rattle.run_base.proofs.Statuses.{Asks, Cause, IsOfText}
 use Rattle.run_base.proofs.Statuses as statuses
 use Rattle.torcheck_run.proofs.Comings.{OneValue}
 use Rattle.tor_output.specs.Answer.{IsNote, FailedAtFirst, FailedAt, LeadsToBroken, LeadsToMalformed, LeadsToLimit, LeadsToAbsent}
-use Rattle.tor_output.specs.First.{NoFile, TooLong, BadLine, Broken, IsTakenUp, first_by}
-use Rattle.tor_output.specs.Resuming.{AsksToResume}
+use Rattle.tor_output.specs.First.{NoFile, TooLong, BadLine, Broken, AsksToResume}
 use Rattle.tor_output.specs.Output.{GainsOutput, GainsOutputPrefix, IsOutput}
 use Rattle.tor_output.specs.Seen.{Outcome, Reads, Joins, Holds, Stops, Ends, Gives, LeadsTo}
 use Rattle.tor_output.specs.Written.{Written}
@@ -90,20 +85,11 @@ module _ (words : List (List ℕ)) (known : Option Files) (steady : Type 0) (lef
       by why = (why.0, why.1, why.3)
 
   -- at no the words ask to take up a result
-  pub asks_to_resume : BoundsLaw → s ≡ status.No → AsksToResume words
-  asks_to_resume bounds is = by (subst (λ (t : Status). IsNote words known steady left t text) is note)
+  pub asks_to_resume : s ≡ status.No → AsksToResume words
+  asks_to_resume is = by (subst (λ (t : Status). IsNote words known steady left t text) is note)
     where
-      resumes : (from : Source) (given : Option (List ℕ)) (mode : Mode) → IsTakenUp (first_by from given) → IsWrittenOf from mode → mode ≡ Resume
-      resumes source.Files None mode up written = absurd up
-      resumes source.Files (Some name) mode up written = absurd up
-      resumes (source.Sample seed) given mode up written = absurd up
-      resumes (source.Result name) given mode up written = absurd up
-      resumes (source.Earlier name) given mode up written = written
-
       by : IsNote words known steady left status.No text → AsksToResume words
-      by why =
-          let settings = why.4.0 in
-          (settings, why.4.1, resumes settings.source settings.given settings.mode why.4.2 (bounds words settings why.4.1).written)
+      by why = why.4
 
   note_no : s ≡ status.No → AsksFor words known (λ t. t ≡ status.No)
   note_no is = let why = leads_broken is in leads words (λ t. t ≡ status.No) known (Stops (Broken why.0 why.1)) refl why.2

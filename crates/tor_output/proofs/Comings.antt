@@ -10,7 +10,7 @@ use Rattle.result_text.specs.declared.file.ResultFile.{ResultFile}
 use Rattle.result_text.specs.Grammar.{IsTextOf, IsBadLine}
 use Rattle.result_rules.specs.declared.verdict.Verdict.TheVariants.{Yes, No}
 use Rattle.tor_words.specs.declared.settings.Settings.{Settings}
-use Rattle.tor_words.specs.Given.{settings_given}
+use Rattle.tor_words.specs.Given.{dumps_in, settings_given}
 use Rattle.run_base.specs.declared.status.Status.{Status}
 use Rattle.run_base.specs.declared.status.Status.TheVariants as status
 use Rattle.run_base.specs.WholeFile.{IsFile}
@@ -195,19 +195,19 @@ same_end law (Earlier name) files (Broken line rule) (Broken line' rule') one ot
 
 module _ (law : OneValue) (settings : Settings) (files : Files) where
   -- of dumps behind what is known
-  known_or_ends : {X : Type 0} (a : Option (List Given)) (taken : Taken) (end : DumpsEnd) → AreGivens (first_in settings) files a → seen_in settings.source settings files ≡ Ok taken
+  known_or_ends : {X : Type 0} (a : Option (List Given)) (taken : Taken) (end : DumpsEnd) → AreGivens (first_in settings) files a → seen_in settings files ≡ Ok taken
       → EndsBehindGivens settings files end ⊎ EndsOnEarlier settings files end → X
-  known_or_ends a taken end are is (inl ends) = values.ok_not_err (seen_in settings.source settings files) taken end is ends.2
+  known_or_ends a taken end are is (inl ends) = values.ok_not_err (seen_in settings files) taken end is ends.2
   known_or_ends a taken end are is (inr ends) = given_or_taken (first_in settings) files a ends.0 are ends.1
 
   -- of dumps on top of a result
   joined_or_ends : {X : Type 0} (file : ResultFile) (taken : Taken) (end : DumpsEnd) → TakesUp (first_in settings) files file
-      → joined file settings.max_paths settings.dumps files ≡ Ok taken → EndsBehindGivens settings files end ⊎ EndsOnEarlier settings files end → X
+      → joined file settings.max_paths (dumps_in settings) files ≡ Ok taken → EndsBehindGivens settings files end ⊎ EndsOnEarlier settings files end → X
   joined_or_ends file taken end takes is (inl ends) = given_or_taken (first_in settings) files ends.0 file ends.1 takes
   joined_or_ends file taken end takes is (inr ends) =
       let same = same_taken law (first_in settings) files ends.0 file ends.1 takes in
-      values.ok_not_err (joined file settings.max_paths settings.dumps files) taken end is
-      (subst (λ (x : ResultFile). joined x settings.max_paths settings.dumps files ≡ Err end) same ends.2)
+      values.ok_not_err (joined file settings.max_paths (dumps_in settings) files) taken end is
+      (subst (λ (x : ResultFile). joined x settings.max_paths (dumps_in settings) files ≡ Err end) same ends.2)
 
   result_or_ends : {X : Type 0} (file : ResultFile) (end : DumpsEnd) → HoldsResult (first_in settings) files file
       → EndsBehindGivens settings files end ⊎ EndsOnEarlier settings files end → X
@@ -221,24 +221,24 @@ module _ (law : OneValue) (settings : Settings) (files : Files) where
 
   same_ends : (end end' : DumpsEnd) → EndsBehindGivens settings files end ⊎ EndsOnEarlier settings files end
       → EndsBehindGivens settings files end' ⊎ EndsOnEarlier settings files end' → end ≡ end'
-  same_ends end end' (inl one) (inl other) = values.err_is (seen_in settings.source settings files) end end' one.2 other.2
+  same_ends end end' (inl one) (inl other) = values.err_is (seen_in settings files) end end' one.2 other.2
   same_ends end end' (inl one) (inr other) = given_or_taken (first_in settings) files one.0 other.0 one.1 other.1
   same_ends end end' (inr one) (inl other) = given_or_taken (first_in settings) files other.0 one.0 other.1 one.1
   same_ends end end' (inr one) (inr other) =
       let same = same_taken law (first_in settings) files other.0 one.0 other.1 one.1 in
-      values.err_is (joined one.0 settings.max_paths settings.dumps files) end end' one.2
-      (subst (λ (x : ResultFile). joined x settings.max_paths settings.dumps files ≡ Err end') same other.2)
+      values.err_is (joined one.0 settings.max_paths (dumps_in settings) files) end end' one.2
+      (subst (λ (x : ResultFile). joined x settings.max_paths (dumps_in settings) files ≡ Err end') same other.2)
 
-  same_joined : (a b : ResultFile) (taken taken' : Taken) → TakesUp (first_in settings) files a → joined a settings.max_paths settings.dumps files ≡ Ok taken
-      → TakesUp (first_in settings) files b → joined b settings.max_paths settings.dumps files ≡ Ok taken' → Joins a taken ≡ Joins b taken'
+  same_joined : (a b : ResultFile) (taken taken' : Taken) → TakesUp (first_in settings) files a → joined a settings.max_paths (dumps_in settings) files ≡ Ok taken
+      → TakesUp (first_in settings) files b → joined b settings.max_paths (dumps_in settings) files ≡ Ok taken' → Joins a taken ≡ Joins b taken'
   same_joined a b taken taken' takes is takes' is' =
       let same = same_taken law (first_in settings) files a b takes takes' in
       ap₂ Joins same
-      (values.ok_is (joined b settings.max_paths settings.dumps files) taken taken' (subst (λ (x : ResultFile). joined x settings.max_paths settings.dumps files ≡ Ok taken) same is) is')
+      (values.ok_is (joined b settings.max_paths (dumps_in settings) files) taken taken' (subst (λ (x : ResultFile). joined x settings.max_paths (dumps_in settings) files ≡ Ok taken) same is) is')
 
   same_outcome : (x y : Outcome) → ComesTo settings files x → ComesTo settings files y → x ≡ y
   same_outcome (Reads a taken) (Reads b taken') one other =
-      ap₂ Reads (same_givens (first_in settings) files a b one.0 other.0) (values.ok_is (seen_in settings.source settings files) taken taken' one.1 other.1)
+      ap₂ Reads (same_givens (first_in settings) files a b one.0 other.0) (values.ok_is (seen_in settings files) taken taken' one.1 other.1)
   same_outcome (Reads a taken) (Joins file taken') one other = given_or_taken (first_in settings) files a file one.0 other.0
   same_outcome (Reads a taken) (Holds file) one other = given_or_result (first_in settings) files a file one.0 other
   same_outcome (Reads a taken) (Stops end) one other = given_or_end (first_in settings) files a end one.0 other

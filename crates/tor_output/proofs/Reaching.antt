@@ -1,5 +1,5 @@
 -- How far a run has read, by its answer.
-use Rattle.std.proofs.Common.{◌≡◌, ◌≤◌, ◌⊎◌, inl, inr, ℕ, List, length, Option, Some, sym, ap₂, subst, ◌∙◌}
+use Rattle.std.proofs.Common.{◌≡◌, ◌⊎◌, inl, inr, ℕ, List, Option, Some, refl, sym, ap₂, subst, ◌∙◌}
 use Rattle.std.specs.Prelude.{⊤}
 use Rattle.std.specs.Io.KnownBytes.{IsAtEnd}
 use Rattle.tor_io.specs.Contents.{Files}
@@ -9,26 +9,24 @@ use Rattle.dump_read.specs.declared.error.Fault.{Fault}
 use Rattle.dump_read.specs.declared.error.LimitKind.{LimitKind}
 use Rattle.dump_read.specs.declared.error.LimitKind.TheVariants.{Paths}
 use Rattle.dump_read.specs.declared.error.Place.{Place}
-use Rattle.dump_read.specs.Reach.{StopsBounded}
+use Rattle.dump_read.specs.Refusals.{IsOfDump}
 use Rattle.tor_words.specs.declared.settings.Settings.{Settings}
-use Rattle.tor_words.specs.declared.settings.Source.{Source}
-use Rattle.tor_words.specs.declared.settings.Source.TheVariants as source
 use Rattle.tor_words.specs.declared.refused.WordsRefused.TheVariants as refused
-use Rattle.tor_words.specs.Given.{settings_given}
+use Rattle.tor_words.specs.Given.{dumps_in, settings_given}
 use Rattle.run_base.specs.declared.answer.Answer.{Answer}
 use Rattle.run_base.specs.declared.answer.Refusal.TheVariants as refusal
 use Rattle.run_base.specs.declared.notes.FirstFile.{FirstFile}
 use Rattle.run_base.specs.declared.whole_file.Unread.TheVariants as unread
 use Rattle.run_base.specs.Answers.{AnswersStop, IsNoMemory, note_in}
 use Rattle.run_base.specs.Notes.{malformed_note, limit_note, bad_line_note, too_long_note, read_fault_note}
-use Rattle.run_base.specs.Reading.{name_of_dump}
 use Rattle.run_base.specs.declared.status.Status.{Status}
 use Rattle.tor_output.specs.declared.unwritten.Unwritten.{Unwritten}
 use Rattle.tor_output.specs.declared.unwritten.Unwritten.TheVariants as unwritten
 use Rattle.tor_output.specs.First.{first_in}
-use Rattle.tor_output.specs.Reach.{IsDumpNumber, IsBounded, IsShownByHeader, IsPastLimit, IsStopInReach, LeavesRestOfFirst, LeavesOnlyFirst, IsUnwrittenInReach, StaysUnwrittenInReach, EndsInReach}
+use Rattle.tor_output.specs.Reach.{IsDumpInReach, IsInReach, IsPastLimit, LeavesRestOfFirst, LeavesOnlyFirst, IsUnwrittenInReach, StaysUnwrittenInReach, EndsInReach}
 use Rattle.tor_output.specs.Refusals.{IsUnwritten, AnswersUnwritten}
-use Rattle.tor_output.specs.Sampling.{BySource}
+use Rattle.tor_output.specs.Sampling.{BySample, sample_of}
+use Rattle.tor_output.proofs.Sampled.{sample_more}
 
 same_settings : (s t : Settings) → ◌≡◌ {A = Option Settings} (Some s) (Some t) → s ≡ t
 same_settings s t e = cc
@@ -38,20 +36,6 @@ pub reach-given :
     → IsUnwrittenInReach settings known left u → StaysUnwrittenInReach words known left u
 reach-given words settings known left u given h =
     λ s is. subst (λ (t : Settings). IsUnwrittenInReach t known left u) (same_settings settings s (sym given ∙ is)) h
-
--- what holds of a dump's number holds of the one that its place names
-placed : (s : Source) (P : ℕ → Type 0) (dump other : ℕ) → BySource s ⊤ (other ≡ dump) → BySource s ⊤ (P dump) → BySource s ⊤ (P other)
-placed source.Files P dump other same h = subst P (sym same) h
-placed (source.Sample seed) P dump other same h = tt
-placed (source.Result name) P dump other same h = subst P (sym same) h
-placed (source.Earlier name) P dump other same h = subst P (sym same) h
-
--- a result that is taken up has more paths than may be
-past : (s : Source) (left : Option (List ℕ)) (dump : ℕ) (e : DumpError) → IsPastLimit s left dump e → (dump ≡ 0) × (e ≡ error.Limit Paths)
-past source.Files left dump e h = absurd h
-past (source.Sample seed) left dump e h = absurd h
-past (source.Result name) left dump e h = absurd h
-past (source.Earlier name) left dump e h = (h.0, h.1)
 
 not_malformed : {X : Type 0} (place : Place) (fault : Fault) → error.Malformed place fault ≡ error.Limit Paths → X
 not_malformed place fault e = absurd cc
@@ -67,50 +51,43 @@ module _ (words : List (List ℕ)) (known : Option Files) (left : Option (List �
   no_memory a h = subst (λ (s : Status). EndsInReach words known left s (note_in a)) (sym h.0) tt
 
   abbrev InReach : ℕ → DumpError → Type 0
-  InReach dump e = (s : Settings) → settings_given words ≡ Some s → IsPastLimit s.source left dump e ⊎ IsStopInReach s known left dump e
+  InReach dump e = (s : Settings) → settings_given words ≡ Some s → IsPastLimit (first_in s) left dump e
+      ⊎ BySample (sample_of s.job) ⊤ (IsOfDump dump e × IsDumpInReach (dumps_in s) known left dump e)
+
+  -- what holds of a dump holds of the one that the place names
+  placed : (s : Settings) (dump : ℕ) (e : DumpError) (other : ℕ) → BySample (sample_of s.job) ⊤ (IsOfDump dump e × IsDumpInReach (dumps_in s) known left dump e)
+      → (IsOfDump dump e → other ≡ dump) → IsInReach s known left other e
+  placed s dump e other h same =
+      sample_more (sample_of s.job) (λ x. x) (λ q. subst (λ (d : ℕ). IsDumpInReach (dumps_in s) known left d e) (sym (same q.0)) q.1) h
 
   stopped : (dump : ℕ) (e : DumpError) (a : Answer) → AnswersStop dump e a → InReach dump e → EndsInReach words known left a.status (note_in a)
   stopped dump (error.Malformed place fault) a (inl h) reach = subst (λ (s : Status). EndsInReach words known left s (note_in a)) (sym h.0) (λ s given. by s (reach s given))
     where
-      by : (s : Settings) → IsPastLimit s.source left dump (error.Malformed place fault) ⊎ IsStopInReach s known left dump (error.Malformed place fault)
+      by : (s : Settings) → IsPastLimit (first_in s) left dump (error.Malformed place fault)
+          ⊎ BySample (sample_of s.job) ⊤ (IsOfDump dump (error.Malformed place fault) × IsDumpInReach (dumps_in s) known left dump (error.Malformed place fault))
           → ((file : FirstFile) × (line : ℕ) × (note_in a ≡ bad_line_note file line) × IsAtEnd left)
-          ⊎ ((p : Place) × ((f : Fault) × (note_in a ≡ malformed_note p f) × IsDumpNumber s p.dump × IsBounded s known left p.dump (error.Malformed p f)))
-      by s (inl over) = not_malformed place fault (past s.source left dump (error.Malformed place fault) over).1
-      by s (inr r) = inr (
-        place,
-        (
-          fault,
-          h.1,
-          placed s.source (λ d. (1 ≤ d) × (d ≤ length s.dumps)) dump place.dump r.1 r.0,
-          placed s.source (λ d. StopsBounded (error.Malformed place fault) (name_of_dump s.dumps d) known left) dump place.dump r.1 r.2,
-        ),
-      )
+          ⊎ ((p : Place) × (f : Fault) × (note_in a ≡ malformed_note p f) × IsInReach s known left p.dump (error.Malformed p f))
+      by s (inl over) = not_malformed place fault over.2
+      by s (inr r) = inr (place, fault, h.1, placed s dump (error.Malformed place fault) place.dump r (λ same. same))
   stopped dump (error.Malformed place fault) a (inr h) reach = no_memory a h
   stopped dump (error.Limit kind) a (inl h) reach = subst (λ (s : Status). EndsInReach words known left s (note_in a)) (sym h.0) (λ s given. by s (reach s given))
     where
-      at_limit : (s : Settings) (d : ℕ) (k : LimitKind) → d ≡ 0 → k ≡ Paths → note_in a ≡ limit_note k d → IsPastLimit s.source left d (error.Limit k)
-          → (note_in a ≡ limit_note Paths 0) × IsPastLimit s.source left 0 (error.Limit Paths)
-      at_limit s d k zero is noted over = (
-        noted ∙ ap₂ limit_note is zero,
-        subst (λ (n : ℕ). IsPastLimit s.source left n (error.Limit Paths)) zero (subst (λ (j : LimitKind). IsPastLimit s.source left d (error.Limit j)) is over),
-      )
-
-      by : (s : Settings) → IsPastLimit s.source left dump (error.Limit kind) ⊎ IsStopInReach s known left dump (error.Limit kind)
+      by : (s : Settings) → IsPastLimit (first_in s) left dump (error.Limit kind)
+          ⊎ BySample (sample_of s.job) ⊤ (IsOfDump dump (error.Limit kind) × IsDumpInReach (dumps_in s) known left dump (error.Limit kind))
           → ((file : FirstFile) × (note_in a ≡ too_long_note file) × LeavesRestOfFirst (first_in s) known left)
-          ⊎ (((note_in a ≡ limit_note Paths 0) × IsPastLimit s.source left 0 (error.Limit Paths))
-          ⊎ ((d : ℕ) × ((k : LimitKind) × (note_in a ≡ limit_note k d) × IsDumpNumber s d × IsBounded s known left d (error.Limit k) × IsShownByHeader s known left d (error.Limit k))))
-      by s (inl over) =
-          let is = past s.source left dump (error.Limit kind) over in
-          inr (inl (at_limit s dump kind is.0 (same_kind kind Paths is.1) h.1 over))
-      by s (inr r) = inr (inr (dump, (kind, h.1, r.0, r.2, r.3)))
+          ⊎ (((note_in a ≡ limit_note Paths 0) × IsPastLimit (first_in s) left 0 (error.Limit Paths))
+          ⊎ ((d : ℕ) × (k : LimitKind) × (note_in a ≡ limit_note k d) × IsInReach s known left d (error.Limit k)))
+      by s (inl over) = inr (inl (h.1 ∙ ap₂ limit_note (same_kind kind Paths over.2) over.1, (over.0, refl, refl, over.3)))
+      by s (inr r) = inr (inr (dump, kind, h.1, placed s dump (error.Limit kind) dump r (λ same. refl)))
   stopped dump (error.Limit kind) a (inr h) reach = no_memory a h
   stopped dump error.ReadFault a (inl h) reach = subst (λ (s : Status). EndsInReach words known left s (note_in a)) (sym h.0) (λ s given. by s (reach s given))
     where
-      by : (s : Settings) → IsPastLimit s.source left dump error.ReadFault ⊎ IsStopInReach s known left dump error.ReadFault
+      by : (s : Settings) → IsPastLimit (first_in s) left dump error.ReadFault
+          ⊎ BySample (sample_of s.job) ⊤ (IsOfDump dump error.ReadFault × IsDumpInReach (dumps_in s) known left dump error.ReadFault)
           → ((note_in a ≡ read_fault_note 0) × LeavesOnlyFirst (first_in s) known left)
-          ⊎ ((d : ℕ) × (note_in a ≡ read_fault_note d) × IsDumpNumber s d × IsBounded s known left d error.ReadFault)
-      by s (inl over) = not_read (past s.source left dump error.ReadFault over).1
-      by s (inr r) = inr (dump, h.1, r.0, r.2)
+          ⊎ ((d : ℕ) × (note_in a ≡ read_fault_note d) × IsInReach s known left d error.ReadFault)
+      by s (inl over) = not_read over.2
+      by s (inr r) = inr (dump, h.1, placed s dump error.ReadFault dump r (λ same. refl))
   stopped dump error.ReadFault a (inr h) reach = no_memory a h
   stopped dump error.NoMemory a h reach = no_memory a h
 

@@ -1,14 +1,15 @@
 -- What a run answers, writes and notes, by what its words and files give.
-use Rattle.std.specs.Prelude.{◌≡◌, ◌≤◌, ◌⊎◌, ◌-◌, ℕ, List, length, take, Option, Some, IfSome, IsOk}
+use Rattle.std.specs.Prelude.{◌≡◌, ◌≤◌, ◌⊎◌, ◌-◌, ℕ, List, length, take, Option, Some, IfSome, Result, IsOk}
 use Rattle.tor_io.specs.Contents.{Files}
 use Rattle.relationships.specs.declared.given.Given.{Given}
 use Rattle.dump_read.specs.declared.error.Place.{Place}
 use Rattle.dump_read.specs.declared.error.Fault.{Fault}
 use Rattle.dump_read.specs.declared.error.LimitKind.{LimitKind}
-use Rattle.dump_read.specs.Seen.{Absent, Malformed, Limit}
+use Rattle.dump_read.specs.declared.taking.Taken.{Taken}
+use Rattle.dump_read.specs.Seen.{DumpsEnd, Absent, Malformed, Limit}
 use Rattle.tor_words.specs.declared.settings.Settings.{Settings}
 use Rattle.tor_words.specs.Refused.{HasUsageLine}
-use Rattle.tor_words.specs.Given.{settings_given}
+use Rattle.tor_words.specs.Given.{dumps_in, settings_given}
 use Rattle.run_base.specs.declared.status.Status.{Status}
 use Rattle.run_base.specs.declared.status.Status.TheVariants as status
 use Rattle.run_base.specs.declared.notes.FirstFile.{FirstFile}
@@ -16,28 +17,29 @@ use Rattle.run_base.specs.Notes.{malformed_note, limit_note, bad_line_note, too_
 use Rattle.torcheck_run.specs.CheckAnswer.{no_text}
 use Rattle.result_text.specs.declared.file.ResultFile.{ResultFile}
 use Rattle.tor_output.specs.Output.{IsNoteOfOutput}
-use Rattle.run_base.specs.Reading.{nothing, seen_from}
-use Rattle.tor_output.specs.First.{NoFile, TooLong, BadLine, Broken, NamesEarlier, ReadsFirst, AreGivens, TakesUp, first_in}
+use Rattle.tor_output.specs.First.{NoFile, TooLong, BadLine, Broken, AsksToResume, ReadsFirst, AreGivens, TakesUp, first_in}
 use Rattle.tor_output.specs.Reach.{LeavesOnlyFirst}
-use Rattle.tor_output.specs.Seen.{Stops, Ends, LeadsTo, joined}
-
--- the dumps before this one have no end
-abbrev pub ReadBefore : Settings → Option Files → ℕ → Type 0
-ReadBefore settings known dump =
-    IfSome known (λ files. IsOk (seen_from settings.sets 1 (nothing settings.max_paths) (take (dump - 1) settings.dumps) files))
+use Rattle.tor_output.specs.Sampling.{sample_of}
+use Rattle.tor_output.specs.Seen.{Stops, Ends, LeadsTo, joined, seen_beside}
 
 -- the file of known relationships, if one is named, is there, and all its lines are good
 abbrev pub AreGivensGood : Settings → Option Files → Type 0
 AreGivensGood settings known = IfSome known (λ files. (givens : Option (List Given)) × AreGivens (first_in settings) files givens)
 
+-- the dumps before this one have no end, seen so
+abbrev pub HasNoEndBefore : (List (List ℕ) → Files → Result Taken DumpsEnd) → List (List ℕ) → Files → ℕ → Type 0
+HasNoEndBefore see dumps files dump = IsOk (see (take (dump - 1) dumps) files)
+
 -- a result is taken up, which has no more paths than may be, and on top of it the dumps before this one have no end
 abbrev pub JoinsBefore : Settings → Option Files → ℕ → Type 0
 JoinsBefore settings known dump = IfSome known (λ files. (file : ResultFile) × TakesUp (first_in settings) files file ×
-    IsOk (joined file settings.max_paths (take (dump - 1) settings.dumps) files))
+    HasNoEndBefore (joined file settings.max_paths) (dumps_in settings) files dump)
 
 -- what is read first, if anything is, is good, and the dumps before this one have no end
 abbrev pub IsGoodBefore : Settings → Option Files → ℕ → Type 0
-IsGoodBefore settings known dump = (AreGivensGood settings known × ReadBefore settings known dump) ⊎ JoinsBefore settings known dump
+IsGoodBefore settings known dump = (AreGivensGood settings known ×
+    IfSome known (λ files. HasNoEndBefore (seen_beside (sample_of settings.job) settings) (dumps_in settings) files dump))
+    ⊎ JoinsBefore settings known dump
 
 -- the open or a read of the file that is read first failed, where the number is 0, and what is left unread, if anything, is a rest of that
 -- file; over a steady shelf it isn't there
@@ -54,7 +56,7 @@ pub record FailedAt (words : List (List ℕ)) (known : Option Files) (steady : T
   pub settings : Settings
   pub given : settings_given words ≡ Some settings
   pub from_one : 1 ≤ dump
-  pub named : dump ≤ length settings.dumps
+  pub named : dump ≤ length (dumps_in settings)
   pub before : IsGoodBefore settings known dump
   pub absent : steady → LeadsTo words known (Ends (Absent dump))
 
@@ -72,7 +74,7 @@ IsNote words known steady left status.ReadFault text =
     (dump : ℕ) × (text ≡ read_fault_note dump) × (FailedAtFirst words known steady left dump ⊎ FailedAt words known steady dump)
 IsNote words known steady left status.Done text = IsNoteOfOutput words text
 IsNote words known steady left status.No text =
-    (line : ℕ) × (rule : ℕ) × (text ≡ no_text line rule) × LeadsTo words known (Stops (Broken line rule)) × NamesEarlier words
+    (line : ℕ) × (rule : ℕ) × (text ≡ no_text line rule) × LeadsTo words known (Stops (Broken line rule)) × AsksToResume words
 IsNote words known steady left status.WriteFault text = text ≡ plain_note status.WriteFault
 IsNote words known steady left status.NoMemory text = text ≡ plain_note status.NoMemory
 

@@ -3,8 +3,12 @@
 #![tactic(auto)]
 
 mod asking;
+mod counting;
+mod dumps;
 mod first;
+mod inferring;
 mod listing;
+mod migrating;
 mod output;
 mod resuming;
 mod sampling;

@@ -11,7 +11,7 @@ ghost use Rattle.dump_read.specs.declared.taking.Taken.{Taken};
 ghost use Rattle.tor_words.specs.Given.{settings_given};
 ghost use Rattle.relationships.specs.declared.given.Given.{Given};
 ghost use Rattle.result_text.specs.declared.file.ResultFile.{ResultFile};
-ghost use Rattle.tor_output.specs.First.{NoFile, TooLong, BadLine, Broken};
+ghost use Rattle.tor_output.specs.First.{NoFile, TooLong, BadLine, Broken, AsksToResume};
 ghost use Rattle.tor_output.specs.Reach.{EndsInReach};
 ghost use Rattle.tor_output.specs.Sampling.{IfSample, known_by};
 ghost use Rattle.tor_output.specs.Seen.{Reads, Joins, Holds, Stops, Ends, Gives};
@@ -19,7 +19,7 @@ ghost use Rattle.tor_output.specs.Answer.{IsNote, LeadsToBroken, LeadsToMalforme
 ghost use Rattle.run_base.specs.Answers.{IsNoted};
 ghost use Rattle.tor_output.specs.Grading.{AsksForSerial, GainsGrading};
 ghost use Rattle.tor_output.specs.Output.{GainsOutput, GainsOutputPrefix, GainsSome, GainsSomePrefix};
-ghost use Rattle.tor_output.specs.Resuming.{AsksToResume, GainsResumed};
+ghost use Rattle.tor_output.specs.Resuming.{GainsResumed};
 ghost use Rattle.run_base.specs.Answers.{note_in};
 ghost use Rattle.run_base.specs.Frames.{RunLeavesShelf, RunLeavesOut};
 ghost use Rattle.run_base.specs.Opening.{OpensInOrder, EndsSo};

@@ -1,9 +1,8 @@
-use Rattle.std.proofs.Common.{◌≡◌}
 use Rattle.run_base.specs.Opening.{AllRead}
 use Rattle.run_base.proofs.Openings.{none_opened}
 use Rattle.tor_output.specs.Opening.{UnwrittenEnds, files_named}
 use Rattle.tor_output.proofs.Openings.{opens_given}
-use Rattle.std.proofs.Common.{refl}
+use Rattle.std.proofs.Common.{◌≡◌, refl}
 use Rattle.std.proofs.lemmas.Result.{IfOk-weaker, IfErr-weaker, on_ok_weaker}
 use Rattle.tor_output.specs.Written.{written}
 use Rattle.tor_output.proofs.Sampled.{asked-given, unwritten-given, sample-given, if_sample}
@@ -54,8 +53,8 @@ returns-in-Ok-clause-reach g c =
 pub returns-in-Err-clause-reach : goal.returns-in-Err-clause-reach
 returns-in-Err-clause-reach g c = λ s is. tt
 
-pub output_for-output-requires-clause-written : goal.output_for-output-requires-clause-written
-output_for-output-requires-clause-written g c = (c.bounds_law.ensures c.args.words.now c.in-Ok.settings c.in-Ok.ensures.given).written
+pub output_for-output-requires-clause-named : goal.output_for-output-requires-clause-named
+output_for-output-requires-clause-named g c = (c.bounds_law.ensures c.args.words.now c.in-Ok.settings c.in-Ok.ensures.given).named
 
 pub returns-in-Ok-clause-opens : goal.returns-in-Ok-clause-opens
 returns-in-Ok-clause-opens g c =

@@ -240,4 +240,4 @@ returns-clause-no_other g c =
     let words = c.args.words.now in
     let old = c.args.shelf.now in
     let a = c.answer-answer in
-    asks_to_resume words (known_by words (shelf.files old)) (shelf.steady old) (shelf.left a.new.shelf) a.result.status (note_in a.result) a.ensures.note c.bounds_law.ensures
+    asks_to_resume words (known_by words (shelf.files old)) (shelf.steady old) (shelf.left a.new.shelf) a.result.status (note_in a.result) a.ensures.note

@@ -3,7 +3,7 @@ use Rattle.std.specs.List.{AllPairs}
 use Rattle.result_text.specs.declared.file.EdgeLine.{EdgeLine}
 use Rattle.as_rel.specs.Labelled.{ends_of}
 use Rattle.tor_output.proofs.GradingLemmas.{result_ends_law}
-use Rattle.tor_output.proofs.output.serial_output.Goals as goal
+use Rattle.tor_output.proofs.inferring.serial_output.Goals as goal
 
 pub serial_alone-output-requires-clause-order : goal.serial_alone-output-requires-clause-order
 serial_alone-output-requires-clause-order c =

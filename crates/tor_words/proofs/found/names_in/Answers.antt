@@ -3,7 +3,7 @@ use Rattle.std.specs.Prelude.{unwrap_or, Option}
 use Rattle.std.proofs.lemmas.Result.{IfOk-weaker}
 use Rattle.clap.specs.Words.{found_of}
 use Rattle.clap.proofs.WalkLemmas.{raw_values-rows}
-use Rattle.tor_words.proofs.settings.names_in.Goals as goal
+use Rattle.tor_words.proofs.found.names_in.Goals as goal
 
 abbrev or_none : Option (List (List ℕ)) → List (List ℕ)
 or_none o = unwrap_or o []
