@@ -1,4 +1,5 @@
 pub mod Against
+pub mod AnyOrder
 pub mod File
 pub mod Judging
 pub mod Rules

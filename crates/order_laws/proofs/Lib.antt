@@ -1,0 +1,3 @@
+pub mod AnyTakings
+pub mod JudgedLemmas
+pub mod RouteOrders
