@@ -1,3 +1,2 @@
 pub mod AnyTakings
-pub mod JudgedLemmas
 pub mod RouteOrders

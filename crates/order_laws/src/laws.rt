@@ -1,6 +1,5 @@
 //! The laws. Each is the contract of a function that does nothing.
 
-ghost use Rattle.order_laws.specs.Judged.{JudgedInAnyOrderLaw};
 ghost use Rattle.order_laws.specs.RouteOrder.{MovedRoutesLaw, OneOrderOfRoutesLaw, FitTogetherLaw, TakenTogetherLaw};
 
 /// Routes in another order give the same, and so do dumps: they are cleaned to the same paths, each as often, and as many are set aside for
@@ -21,10 +20,4 @@ pub fn one_order_of_routes()
 pub fn limits_together()
     ensures fit { FitTogetherLaw }
     ensures taken { TakenTogetherLaw }
-{}
-
-/// What has the counts and the paths of what was taken in, in whatever order, is judged yes in any order, beside all dumps that give the
-/// same.
-pub fn judged_in_any_order()
-    ensures { JudgedInAnyOrderLaw }
 {}

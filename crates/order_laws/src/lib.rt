@@ -3,4 +3,4 @@
 
 mod laws;
 
-pub use laws::{judged_in_any_order, limits_together, moved_routes, one_order_of_routes};
+pub use laws::{limits_together, moved_routes, one_order_of_routes};

@@ -1,9 +1,8 @@
 -- A file has one verdict.
 use Rattle.std.proofs.Common.{◌≡◌, ◌-◌, inl, inr, ℕ, List, Option, Some, None, refl, sym, ap, subst, ◌∙◌, ◌==◌}
-use Rattle.std.specs.Prelude.{◌<◌, slice_get, Contains, if◌then◌else◌}
+use Rattle.std.specs.Prelude.{slice_get, if◌then◌else◌}
 use Rattle.std.proofs.lemmas.Bool.{cases_order}
 use Rattle.std.proofs.lemmas.Option.{same_Some}
-use Rattle.tor_arena.proofs.Gets.{Contains-from_has}
 use Rattle.path_clean.specs.Counts.{CauseCounts}
 use Rattle.path_table.specs.Rows.{Counted}
 use Rattle.result_text.specs.declared.file.ResultFile.{ResultFile}
@@ -12,10 +11,8 @@ use Rattle.result_rules.specs.declared.rule.Rule.{Rule}
 use Rattle.result_rules.specs.declared.rule.Rule.TheVariants.{HeadSound, PathsCleaned, PathsDistinct, LostRefuted, EdgesListed}
 use Rattle.result_rules.specs.declared.rule.Rule.TheVariants.{LabelsServe, SupportCounted, OrdersShown, MarksBorneOut, TotalsRight}
 use Rattle.result_rules.specs.Rules.{rule_number, line_for, Accepts, BreaksFirst, IsRefused}
-use Rattle.result_rules.specs.declared.verdict.Verdict.{Verdict}
-use Rattle.result_rules.specs.Against.{in_order, its_rows, line_against, Agrees, Departs, JudgesAgainst}
-use Rattle.result_rules.specs.AnyOrder.{AgreesInAnyOrder, DepartsInAnyOrder, JudgesInAnyOrder}
-use Rattle.result_rules.specs.Judging.{OneVerdictLaw, OneAgainstLaw, AnyOrderVerdictLaw}
+use Rattle.result_rules.specs.Against.{in_order, line_against, Departs, JudgesAgainst}
+use Rattle.result_rules.specs.Judging.{OneVerdictLaw, OneAgainstLaw}
 
 abbrev numbered : ℕ → Option Rule
 numbered n =
@@ -85,15 +82,6 @@ one_verdict_law file (No l n) (No l' n') a b = one_refused file l n l' n' a b
 
 -- ---- beside dumps
 
-one_least : (P : ℕ → Type 0) (j k : ℕ) → (P j → ⊥) → ((i : ℕ) → i < j → P i) → (P k → ⊥) → ((i : ℕ) → i < k → P i) → j ≡ k
-one_least P j k breach before breach' before' = elim (cases_order j k) [
-  | inl e ↦ e
-  | inr o ↦ elim o [
-    | inl lt ↦ absurd (breach (before' j lt))
-    | inr lt ↦ absurd (breach' (before k lt))
-  ]
-]
-
 departs_or_agrees : (file : ResultFile) (rows : List Counted) (counts : CauseCounts) (l n : ℕ) → JudgesAgainst file rows counts Yes → Departs file rows counts l n → ⊥
 departs_or_agrees file rows counts l n right d =
     d.breach (record {
@@ -103,7 +91,13 @@ departs_or_agrees file rows counts l n right d =
 
 one_departure : (file : ResultFile) (rows : List Counted) (counts : CauseCounts) (l n l' n' : ℕ) → Departs file rows counts l n → Departs file rows counts l' n' → No l n ≡ No l' n'
 one_departure file rows counts l n l' n' a b =
-    let place : a.place ≡ b.place = one_least (Agrees file rows counts) a.place b.place a.breach a.before b.breach b.before in
+    let place : a.place ≡ b.place = elim (cases_order a.place b.place) [
+      | inl e ↦ e
+      | inr o ↦ elim o [
+        | inl lt ↦ absurd (a.breach (b.before a.place lt))
+        | inr lt ↦ absurd (b.breach (a.before b.place lt))
+      ]
+    ] in
     verdicts_same l n l' n' (a.numbered ∙ ap (line_against file) place ∙ sym b.numbered) (a.named ∙ sym b.named)
 
 pub one_against_law : OneAgainstLaw
@@ -111,37 +105,3 @@ one_against_law file rows counts Yes Yes a b = refl
 one_against_law file rows counts Yes (No l n) a b = absurd (departs_or_agrees file rows counts l n a b)
 one_against_law file rows counts (No l n) Yes a b = absurd (departs_or_agrees file rows counts l n b a)
 one_against_law file rows counts (No l n) (No l' n') a b = one_departure file rows counts l n l' n' a b
-
--- ---- beside dumps in any order
-
-departs_or_has_same : (file : ResultFile) (rows : List Counted) (counts : CauseCounts) (l n : ℕ) → JudgesInAnyOrder file rows counts Yes → DepartsInAnyOrder file rows counts l n → ⊥
-departs_or_has_same file rows counts l n right d =
-    d.breach (record {
-      count = λ lt. ap (λ c. slice_get (in_order c) d.place) right.0;
-      path = λ le. record {
-        line = λ row at. (right.1 row).0 (Contains-from_has (its_rows file) row (d.place - 7, at));
-        end = λ last row there. (right.1 row).1 there;
-      };
-    })
-
-one_departure_in_any_order : (file : ResultFile) (rows : List Counted) (counts : CauseCounts) (l n l' n' : ℕ) → DepartsInAnyOrder file rows counts l n
-    → DepartsInAnyOrder file rows counts l' n' → No l n ≡ No l' n'
-one_departure_in_any_order file rows counts l n l' n' a b =
-    let place : a.place ≡ b.place = one_least (AgreesInAnyOrder file rows counts) a.place b.place a.breach a.before b.breach b.before in
-    verdicts_same l n l' n' (a.numbered ∙ ap (line_against file) place ∙ sym b.numbered) (a.named ∙ sym b.named)
-
-one_in_any_order : (file : ResultFile) (rows : List Counted) (counts : CauseCounts) (verdict other : Verdict) → JudgesInAnyOrder file rows counts verdict
-    → JudgesInAnyOrder file rows counts other → verdict ≡ other
-one_in_any_order file rows counts Yes Yes a b = refl
-one_in_any_order file rows counts Yes (No l n) a b = absurd (departs_or_has_same file rows counts l n a b)
-one_in_any_order file rows counts (No l n) Yes a b = absurd (departs_or_has_same file rows counts l n b a)
-one_in_any_order file rows counts (No l n) (No l' n') a b = one_departure_in_any_order file rows counts l n l' n' a b
-
-pub any_order_verdict_law : AnyOrderVerdictLaw
-any_order_verdict_law = record {
-  one = one_in_any_order;
-  as_ordered = λ file rows counts right. (
-      right.0,
-      λ row. (subst (λ (t : List Counted). Contains t row) right.1, subst (λ (t : List Counted). Contains t row) (sym right.1)),
-  );
-}

@@ -3,7 +3,6 @@ use Rattle.std.specs.Prelude.{◌≡◌, List}
 use Rattle.path_clean.specs.Counts.{CauseCounts}
 use Rattle.path_table.specs.Rows.{Counted}
 use Rattle.result_rules.specs.Against.{JudgesAgainst}
-use Rattle.result_rules.specs.AnyOrder.{JudgesInAnyOrder}
 use Rattle.result_rules.specs.declared.verdict.Verdict.{Verdict}
 use Rattle.result_rules.specs.declared.verdict.Verdict.TheVariants.{Yes, No}
 use Rattle.result_text.specs.declared.file.ResultFile.{ResultFile}
@@ -23,10 +22,3 @@ abbrev pub OneAgainstLaw : Type 0
 OneAgainstLaw =
     (file : ResultFile) (rows : List Counted) (counts : CauseCounts) (verdict other : Verdict) → JudgesAgainst file rows counts verdict →
     JudgesAgainst file rows counts other → verdict ≡ other
-
--- and one beside dumps in any order, which is yes wherever that in their order is
-pub record AnyOrderVerdictLaw : Type 0 where
-  pub one : (file : ResultFile) (rows : List Counted) (counts : CauseCounts) (verdict other : Verdict) →
-      JudgesInAnyOrder file rows counts verdict → JudgesInAnyOrder file rows counts other → verdict ≡ other
-  pub as_ordered : (file : ResultFile) (rows : List Counted) (counts : CauseCounts) → JudgesAgainst file rows counts Yes →
-      JudgesInAnyOrder file rows counts Yes

@@ -1,5 +1,4 @@
 pub mod Against
-pub mod AnyOrder
 pub mod File
 pub mod Judging
 pub mod Rules

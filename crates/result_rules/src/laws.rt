@@ -1,6 +1,6 @@
 //! Laws over the definitions in `specs/`, each as the contract of a function that does nothing.
 
-ghost use Rattle.result_rules.specs.Judging.{OneVerdictLaw, OneAgainstLaw, AnyOrderVerdictLaw};
+ghost use Rattle.result_rules.specs.Judging.{OneVerdictLaw, OneAgainstLaw};
 ghost use Rattle.result_rules.specs.Valid.{AcceptanceLaw};
 
 /// What meets all rules is valid.
@@ -8,10 +8,8 @@ pub fn acceptance_law()
     ensures { AcceptanceLaw }
 {}
 
-/// A file has one verdict, and one beside the same dumps, in their order and in any: yes, or one line and one rule. What agrees with dumps
-/// in their order agrees with them in any.
+/// A file has one verdict, and one beside the same dumps: yes, or one line and one rule.
 pub fn one_verdict_law()
     ensures alone { OneVerdictLaw }
     ensures beside { OneAgainstLaw }
-    ensures any_order { AnyOrderVerdictLaw }
 {}

@@ -6,6 +6,3 @@ returns-clause-alone c = OneVerdict.one_verdict_law
 
 pub returns-clause-beside : goal.returns-clause-beside
 returns-clause-beside c = OneVerdict.one_against_law
-
-pub returns-clause-any_order : goal.returns-clause-any_order
-returns-clause-any_order c = OneVerdict.any_order_verdict_law

@@ -1,17 +1,14 @@
 -- What a result has to agree with where dumps are named that may stand in any order: the counts, and the set of the distinct paths, each
 -- with its times. This is rule 11 of docs/FORMATS.md without the order of the paths.
-use Rattle.std.specs.Prelude.{◌≡◌, ◌↔◌, ℕ, ◌-◌, ◌<◌, ◌≤◌, List, length, Contains, slice_get}
+use Rattle.std.specs.Prelude.{◌≡◌, ℕ, ◌-◌, ◌<◌, ◌≤◌, List, length, Contains, slice_get}
 use Rattle.path_clean.specs.Counts.{CauseCounts}
 use Rattle.path_table.specs.Rows.{Counted}
+use Rattle.path_order.specs.Laws.{HaveSameRows}
 use Rattle.result_text.specs.declared.file.ResultFile.{ResultFile}
 use Rattle.result_rules.specs.Against.{in_order, its_rows, line_against}
 use Rattle.result_rules.specs.Rules.{ForSome}
 use Rattle.result_rules.specs.declared.verdict.Verdict.{Verdict}
 use Rattle.result_rules.specs.declared.verdict.Verdict.TheVariants.{Yes, No}
-
--- the result has a path with its times just where the rows have it
-abbrev pub HasItsRows : ResultFile → List Counted → Type 0
-HasItsRows file rows = (row : Counted) → Contains (its_rows file) row ↔ Contains rows row
 
 -- the path line in this place has a path of the rows, with its times. Behind the last line there is none that no line has
 pub record IsAmong (file : ResultFile) (rows : List Counted) (k : ℕ) : Type 0 where
@@ -33,5 +30,5 @@ pub record DepartsInAnyOrder (file : ResultFile) (rows : List Counted) (counts :
 
 -- yes exactly if the counts are these, and the paths with their times
 abbrev pub JudgesInAnyOrder : ResultFile → List Counted → CauseCounts → Verdict → Type 0
-JudgesInAnyOrder file rows counts Yes = (file.asides ≡ counts) × HasItsRows file rows
+JudgesInAnyOrder file rows counts Yes = (file.asides ≡ counts) × HaveSameRows (its_rows file) rows
 JudgesInAnyOrder file rows counts (No line rule) = DepartsInAnyOrder file rows counts line rule
