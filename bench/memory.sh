@@ -1,8 +1,9 @@
 #!/usr/bin/env bash
 # What the programs do when memory is refused. Each command is run with its first allocation refused, then with its second, and so on
 # until none is left to refuse: once that allocation alone, and once with all behind it. Such a run has to end with status 7, nothing on
-# standard output, and the note `no-memory`, which may be missing only as long as the words aren't held. Each line says the command, how
-# many of its allocations were refused and whether all was as it should be; the script ends with 1 if it was not.
+# standard output, and the note `no-memory`, which may be missing only as long as the words aren't held. A run to which none was refused has
+# to be as one of its own, since how many allocations there are depends on random keys. Each line says the command, how many of its
+# allocations were refused and whether all was as it should be; the script ends with 1 if it was not.
 #   bench/memory.sh BIN SAMPLES
 # BIN is the folder of the programs.
 set -uo pipefail
@@ -96,39 +97,44 @@ run() { # FROM TO COMMAND ..
     status=$?
 }
 
-# Looks at a run of which an allocation was refused. Once a run has written its note, all that follow have to.
+# Looks at a run. Where nothing was refused all has to be as in the command's own run. Else memory ran out, and once a run has written that
+# note, all that follow have to.
 look() { # WHICH
     local wrong= note
     note=$(< "$work/note")
-    if [ "$note" = no-memory ]; then held=yes; fi
-    if [ $status != 7 ]; then wrong+=", status $status"; fi
-    if [ -s "$work/out" ]; then wrong+=", output '$(head -c 40 "$work/out" | head -1)'"; fi
-    if [ "$note" != no-memory ] && [ -n "$held$note" ]; then wrong+=", note '${note:0:40}'"; fi
+    if [ ! -s "$work/refused" ]; then
+        if [ $status != $own ] || ! cmp -s "$work/out" "$work/own-out" || ! cmp -s "$work/note" "$work/own-note"; then
+            wrong=", with none refused, status $status for $own or another text"
+        fi
+    else
+        if [ "$note" = no-memory ]; then held=yes; fi
+        if [ $status != 7 ]; then wrong+=", status $status"; fi
+        if [ -s "$work/out" ]; then wrong+=", output '$(head -c 40 "$work/out" | head -1)'"; fi
+        if [ "$note" != no-memory ] && [ -n "$held$note" ]; then wrong+=", note '${note:0:40}'"; fi
+    fi
     if [ -n "$wrong" ]; then
         differing=$((differing + 1))
         if [ -z "$first" ]; then first="first $1$wrong"; fi
     fi
 }
 
-# Makes the runs of a command, with each allocation refused in turn, or each so many. Behind the last all has to be as in a run of its own.
+# Makes the runs of a command, with each allocation refused in turn, or each so many, up to a run that has none of that number.
 refuse() { # NAME STEP COMMAND ..
     local name=$1 step=$2 number=1 count=0 held= differing=0 first=
     shift 2
     "$@" > "$work/own-out" 2> "$work/own-note"
     local own=$?
     run $number $number "$@"
+    look "number $number alone"
     while [ -s "$work/refused" ]; do
-        look "number $number alone"
         run $number 4000000000 "$@"
         look "number $number and all behind it"
         count=$((count + 1))
         number=$((number + step))
         run $number $number "$@"
+        look "number $number alone"
     done
-    if [ $count = 0 ]; then first="none was there to refuse"; fi
-    if [ $status != $own ] || ! cmp -s "$work/out" "$work/own-out" || ! cmp -s "$work/note" "$work/own-note"; then
-        first+="; with none refused, status $status for $own or another text"
-    fi
+    if [ $count = 0 ]; then first+=" none was there to refuse"; fi
     if [ -z "$first" ]; then
         echo "ok: $name: $count allocations refused"
     else

@@ -2,6 +2,8 @@
 # Makes an archive of the programs for machines without the kit: bin/ and share/ as `make install` has them, the README, each file of the
 # repository that it names, with what lies beside a script, docs/*.md and samples/.
 #   tools/dist.sh ARCHIVE PROGRAM ..
+#
+# The archive has the name of a commit, since no version is chosen.
 set -eu
 archive=$PWD/$1
 shift

@@ -3,6 +3,7 @@
 #![tactic(auto)]
 
 use run_base::{Status, code_of_failure};
+use showing_run::{view, why};
 use std::env;
 use std::process::ExitCode;
 use tor_arena::Keys;
@@ -11,8 +12,6 @@ use tor_run::infer;
 use tor_words::words_of;
 use torcheck_run::check;
 use torgrade_run::grade;
-use torview_run::view;
-use torwhy_run::why;
 
 #[derive(Clone, Copy)]
 enum Program {

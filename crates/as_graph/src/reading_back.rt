@@ -1,4 +1,6 @@
 //! The paths of a graph, read back from their steps.
+//!
+//! Numbers go straight into the list of which the rows are made (`Rows::from_parts`), 17 instructions each and not 31.
 ghost use Rattle.std.specs.Prelude.{◌≡◌, ◌+◌, ◌*◌, ◌<◌, ◌≤◌, ◌++◌, [], All, length, take, OnOk, IfOk};
 ghost use Rattle.relationships.specs.Graph.{edges};
 ghost use Rattle.as_graph.specs.Inside.{reached_by, path_along, ArePathsBetween};

@@ -1,4 +1,7 @@
 //! The steps of the paths of a graph.
+//!
+//! The memory of all steps is taken at once, and each goes straight into its row. A copy of a whole row costs some 12 instructions a step
+//! more.
 ghost use Rattle.std.specs.Prelude.{◌≡◌, ◌-◌, ◌<◌, ◌≤◌, ◌++◌, ◌∷◌, [], length, take, drop, slice_get, Some, OnOk, OnErr};
 
 use crate::step::Step;

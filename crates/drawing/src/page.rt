@@ -1,5 +1,8 @@
 //! Where boxes and lines stand on the page. All lengths are whole numbers, in units of which the page is 1000 wide; x grows to the right
 //! and y downwards, from the upper left corner.
+//!
+//! Depth ends at 8 and a group or generation at 2,000, so that all numbers of a page fit 32 bits. Lines between generations leave at a
+//! side of a box, so they share no rail with those of the neighbours.
 ghost use Rattle.std.specs.Prelude.{◌≡◌, ◌+◌, ◌^◌, ◌<◌, ◌≤◌};
 ghost use Rattle.drawing.specs.Page.{rows_of, centre_row, first_row_below, row_y, column_x, box_at, centre_box, page_height};
 ghost use Rattle.drawing.specs.Page.{column_of, column_beside, line_up, line_beside, line_down, spot_above};

@@ -1,4 +1,6 @@
 //! The ASes of a generation that are drawn, each found with where it stands.
+//!
+//! An AS has one box. A provider that is nearer already gets no second, and its edge no line.
 ghost use Rattle.std.specs.Prelude.{◌≡◌, ℕ, [], ◌∷◌, ◌++◌, OnOk};
 ghost use Rattle.drawing.specs.Generations.{standing_of};
 

@@ -1,4 +1,6 @@
 //! All generations above an AS.
+//!
+//! A generation is added by a step from the one before, and lists have the topmost first, so that a step puts one in front.
 ghost use Rattle.std.specs.Prelude.{◌≡◌, ◌-◌, ◌+◌, ◌*◌, ◌<◌, ◌≤◌, ℕ, List, [], ◌∷◌, ◌++◌, map, length, filter_map, OnOk, IfOk};
 ghost use Rattle.drawing.specs.declared.group.Neighbour.{Neighbour};
 ghost use Rattle.drawing.specs.Generations.{box_count, standing_at, standings_at, standing_of, perches_at, perch_at, tie_of};

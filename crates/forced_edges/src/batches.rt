@@ -1,4 +1,7 @@
 //! Which orders lead to their opposites, settled in batches.
+//!
+//! A batch begins with orders that don't join it, as long as that is cheap. Behind a hub each that joins has visited thousands of orders,
+//! in each batch anew. Arcs are counted and not nodes, else all would look along the arcs of one hub.
 ghost use Rattle.std.specs.Prelude.{[], ◌≡◌, ℕ, Contains, OnOk, IfOk};
 ghost use Rattle.order_trials.specs.Showing.{IsFullyShown};
 ghost use Rattle.order_trials.specs.Settling.{IsSettled, IsSettling};

@@ -1,4 +1,7 @@
 //! A number for each end of an edge.
+//!
+//! Votes are two counts for each edge and no signed lean, of four octets, and counted without a branch. A graph has at most 2^26 paths,
+//! and each has one vote at most for an end.
 ghost use Rattle.std.specs.Prelude.{◌≡◌, map, IfOk};
 ghost use Rattle.relationships.specs.Relationship.{opposite};
 ghost use Rattle.relationships.specs.Graph.{edges};

@@ -1,4 +1,6 @@
 //! What the edges prefer, in settling order.
+//!
+//! Preferences are sorted by lean and place together, so an unstable sort, which takes no memory, gives the one order.
 ghost use Rattle.std.specs.Prelude.{◌≡◌, ◌≢◌, ◌<◌, ◌≤◌, ℕ, List, All, length, map, slice_index_or, IfOk};
 ghost use Rattle.std.specs.List.{AllPairs};
 ghost use Rattle.std.specs.List.Sorted.{IsPermutation};

@@ -1,4 +1,6 @@
 //! Whether an order leads to its opposite, one order after the other.
+//!
+//! An order that no arc leaves is settled without a search. Three quarters of the searches of a fan were for these.
 ghost use Rattle.std.specs.Prelude.{◌≡◌, ◌<◌, IfOk};
 ghost use Rattle.order_trials.specs.Showing.{IsFullyShown};
 ghost use Rattle.order_trials.specs.Settling.{IsTogether, IsSettling, Settles};

@@ -1,4 +1,7 @@
 //! What cleaning comes to.
+//!
+//! 128 marks, by the lowest bits of each number, show for thirteen of fourteen new paths that no number is twice. The same pass finds
+//! reserved numbers.
 ghost use Rattle.std.specs.Prelude.{◌≡◌, true, false, IsTrue};
 ghost use Rattle.std.specs.List.{list_any};
 ghost use Rattle.tor_arena.specs.Distinct.{is_distinct};

@@ -1,4 +1,7 @@
 //! The merged paths of routes, which lie one behind the other.
+//!
+//! One list serves a whole dump, so a path is copied once, into the table, and only where it is new. A list for each route cost a tenth
+//! of `--list`.
 
 ghost use Rattle.std.specs.Prelude.{◌≡◌, ◌-◌, ◌<◌, ◌≤◌, [], length, take, drop, slice_get, Some, IfOk, OnErr};
 ghost use Rattle.tor_arena.specs.RowLists.{last_end};

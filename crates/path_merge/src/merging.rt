@@ -1,4 +1,6 @@
 //! The ASes of segments, with equal neighbours merged as they go onto a path, which lies behind other numbers.
+//!
+//! A sequence goes by its runs of equal numbers, so that the number before is looked up in no list.
 
 ghost use Rattle.std.specs.Prelude.{◌≡◌, ◌+◌, ◌<◌, ◌≤◌, ◌==◌, ◌++◌, nat_eq, fold, take, vec_len, vec_capacity, IfOk, OnOk};
 ghost use Rattle.std.specs.List.{list_any, list_all, dedup};

@@ -1,4 +1,7 @@
 //! The paths that are kept so far.
+//!
+//! Whether a path's triples are satisfied is asked without a branch (`are_satisfied`), since no processor guesses where a path begins to
+//! go down.
 ghost use Rattle.std.specs.Prelude.{◌≡◌, ◌*◌, ◌<◌, [], All, length, take, IfSome, IfNone, IfOk, OnOk, OnErr};
 ghost use Rattle.relationships.specs.Graph.{edges};
 ghost use Rattle.relationships.specs.Evidence.{Refutes};

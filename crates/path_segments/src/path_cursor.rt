@@ -1,4 +1,7 @@
 //! The AS path of a route, read where it lies: AS_PATH alone, or merged with AS4_PATH (RFC 6793, section 4.2.3).
+//!
+//! A merge takes no memory, since it is the first segments of AS_PATH and then those of AS4_PATH. Where numbers have four octets only
+//! AS_PATH is looked at. The other attributes are looked for only where AS4_PATH is there.
 
 ghost use Rattle.std.specs.Prelude.{◌≡◌, ◌≤◌, [], ◌∷◌, filter, MatchOption, IfSome, option_and_then, option_map};
 ghost use Rattle.path_attrs.specs.Attributes.{first_value};

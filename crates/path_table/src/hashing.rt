@@ -1,4 +1,6 @@
 //! The hashes of rows, and rows by their places.
+//!
+//! The lowest bit of the upper half depends on all of the last number, so no further mixing is made.
 
 ghost use Rattle.std.specs.Prelude.{◌≡◌, ◌<◌, ◌≤◌, length};
 ghost use Rattle.tor_arena.specs.Limits.{most_places};

@@ -1,4 +1,6 @@
 //! Paths that are looked up one right after the other, by guesses that are compared.
+//!
+//! All guesses are made before the first comparison, so their looks into memory overlap.
 
 ghost use Rattle.std.specs.Prelude.{◌≡◌, ◌≤◌, [], length, vec_capacity, OnOk, OnErr};
 ghost use Rattle.path_table.specs.Lookups.{found_at, AreHashed, AreRowsWhereFound};

@@ -1,4 +1,10 @@
 //! Rows that stand twice, found without a copy of them.
+//!
+//! Repeated rows are found by buckets. On the set by which the table finds paths `torcheck` takes up to 15 % longer and a sixth more
+//! memory.
+//!
+//! All hashes are made before the first look-up, so that the looks into memory overlap. The table's own slots would not do, since they name
+//! fewer rows than a list may have.
 
 ghost use Rattle.std.specs.Prelude.{◌≡◌, ◌+◌, ◌<◌, ◌≤◌, ◌↔◌, [], length, vec_capacity, IsTrue, IfOk};
 ghost use Rattle.tor_arena.specs.Limits.{most_places};

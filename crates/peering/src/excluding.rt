@@ -1,4 +1,7 @@
 //! Which edges no kept path would let be a peering.
+//!
+//! On a kept path only the last step up and the first step down can be flat. All other edges are excluded in one pass, which keeps the
+//! search linear.
 ghost use Rattle.std.specs.Prelude.{◌≡◌, ◌<◌, ◌⊎◌, ◌↔◌, ℕ, false, All, length, slice_index_or, IsTrue, IfOk};
 ghost use Rattle.relationships.specs.Relationship.{label_of};
 ghost use Rattle.relationships.specs.Graph.{edges};

@@ -1,11 +1,10 @@
 -- What follows from the definitions meets the rules of a checker.
-use Rattle.std.specs.Prelude.{ℕ, ◌≤◌, List, [], Option, unwrap_or, length, sum_by, All, IsTrue}
-use Rattle.std.specs.List.{list_all}
-use Rattle.tor_arena.specs.Limits.{max_paths, max_numbers, max_ratio}
+use Rattle.std.specs.Prelude.{ℕ, ◌≤◌, List, [], Option, unwrap_or}
+use Rattle.tor_arena.specs.Limits.{max_ratio}
 use Rattle.path_clean.specs.declared.cleaned.Sets.{Sets}
 use Rattle.path_clean.specs.Counts.{CauseCounts}
-use Rattle.path_clean.specs.Paths.{is_cleaned}
-use Rattle.path_table.specs.Rows.{Counted, row_paths, times_of, none_twice}
+use Rattle.path_table.specs.Rows.{Counted}
+pub use Rattle.path_order.specs.TableRows.{AreTableRows}
 use Rattle.relationships.specs.declared.given.Given.{Given}
 use Rattle.relationships.specs.Givens.{NameTwo, NameOnce}
 use Rattle.result_text.specs.declared.file.ResultFile.{ResultFile}
@@ -18,14 +17,6 @@ use Rattle.result_rules.specs.Against.{JudgesAgainst}
 use Rattle.rel_infer.specs.GivenResults.{IsResultWith}
 use Rattle.rel_infer.specs.GivenInference.{PeerEitherWayWith, LeaveNoneOutWith}
 use Rattle.rel_infer.specs.Peers.{PeerEitherWay}
-
--- rows as a table of paths has them: clean paths, each seen and none there twice, and no more of them and of their numbers than may be
-pub record AreTableRows (rows : List Counted) : Type 0 where
-  pub clean : IsTrue (list_all is_cleaned (row_paths rows))
-  pub seen : All (λ times. 1 ≤ times) (times_of rows)
-  pub once : IsTrue (none_twice (row_paths rows))
-  pub few : length (row_paths rows) ≤ max_paths
-  pub numbers : sum_by length (row_paths rows) ≤ max_numbers
 
 -- what a result has of which a checker says yes
 pub record IsVouchedFor (ratio : ℕ) (rows : List Counted) (counts : CauseCounts) (file : ResultFile) : Type 0 where

@@ -1,4 +1,7 @@
 //! Links into rows of returns, changed to name givens.
+//!
+//! The search knows rows alone. The walks are copied once, each link into a row of a return changed to path 0 and the number of the
+//! given.
 ghost use Rattle.std.specs.Prelude.{◌≡◌, ◌+◌, ◌≤◌, ◌<◌, length, map, slice_index_or, take, IfOk, OnOk};
 ghost use Rattle.tor_arena.specs.Limits.{max_paths};
 ghost use Rattle.relationships.specs.GivenEvidence.{given_link, with_given_links};

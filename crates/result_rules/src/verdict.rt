@@ -1,4 +1,6 @@
 //! The verdict on a result.
+//!
+//! An empty list of dumps is read as a list without paths, so a check without dumps is a case of its own (`JudgesByDumps`).
 
 /// What a checker says of a result.
 #[derive(Clone, Copy, PartialEq, Eq)]

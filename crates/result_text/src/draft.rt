@@ -1,4 +1,6 @@
 //! A result that is read line by line.
+//!
+//! The version of a draft is that of its givens: none, or a list that may be empty.
 ghost use Rattle.std.specs.Prelude.{◌≡◌, ◌<◌};
 ghost use Rattle.result_text.specs.declared.line.Line.TheVariants as line;
 ghost use Rattle.result_text.specs.Reading.{line_of_kept, lost_from};

@@ -1,4 +1,6 @@
 //! The kinds of lines, and the versions of a text.
+//!
+//! The order of lines is a machine over kinds of lines, so that a further section is an addition.
 ghost use Rattle.std.specs.Prelude.{◌≡◌};
 ghost use Rattle.result_text.specs.Text.{version_of};
 

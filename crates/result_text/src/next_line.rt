@@ -1,4 +1,7 @@
 //! The line at the prefix of the octets, read into the draft.
+//!
+//! The octets of a long line, of 2^16 or more, are let go before its numbers are copied. Hot functions with two callers have hints to
+//! inline; without these reading takes 2.4 % more instructions.
 
 ghost use Rattle.std.specs.Prelude.{◌≡◌, IfOk, IfErr};
 ghost use Rattle.result_text.specs.Order.{with_line, next_at, step, Steps};

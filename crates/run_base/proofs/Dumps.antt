@@ -1,14 +1,18 @@
 -- Dumps that are read one after the other.
-use Rattle.std.proofs.Common.{◌≡◌, ℕ, zero, suc, ◌+◌, ◌-◌, ◌<◌, List, [], ◌∷◌, ◌++◌, length, take, drop, get_or, Option, Some, None, Result, Ok, Err, refl, sym, ap, ap₂, subst, ◌∙◌, arith}
+use Rattle.std.proofs.Common.{◌≡◌, ℕ, zero, suc, ◌+◌, ◌-◌, ◌<◌, ◌≤◌, List, [], ◌∷◌, ◌++◌, length, take, drop, get_or, Option, Some, None, Result, Ok, Err, refl, sym, ap, ap₂, subst, ◌∙◌, arith}
 use Rattle.std.specs.Prelude.{IfSome, IsOk}
 use Rattle.std.proofs.lemmas.List.{take_more, length-take, length-append}
 use Rattle.path_attrs.specs.Fields.{◌>>=◌}
 use Rattle.path_clean.specs.declared.cleaned.Sets.{Sets}
 use Rattle.tor_io.specs.Contents.{Files, LacksFile}
 use Rattle.dump_read.specs.declared.error.DumpError.{DumpError}
+use Rattle.dump_read.specs.declared.error.DumpError.TheVariants as error
 use Rattle.dump_read.specs.declared.taking.Taken.{Taken}
-use Rattle.dump_read.specs.Seen.{DumpsEnd, Absent, IsOfSomeFile, of_file, of_octets, end_named}
+use Rattle.dump_read.specs.Seen.{DumpsEnd, Absent, Malformed, Limit, IsOfSomeFile, of_file, of_octets, end_named}
+use Rattle.run_base.specs.Programs.{DumpsEndAt, DumpsGive, ReadBefore}
 use Rattle.run_base.specs.Reading.{IsOfSomeDumps, seen_from, seen_of, name_of_dump}
+use Rattle.run_base.specs.Reach.{IsDumpInReach}
+use Rattle.run_base.specs.Stopping.{StopsDumps}
 
 -- the first dumps, and then the others
 seen_from-append : (sets : Sets) (d : ℕ) (old mid : Taken) (prefix rest : List (List ℕ)) (files : Files) → seen_from sets d old prefix files ≡ Ok mid
@@ -124,3 +128,36 @@ some_more sets old mid new i so_far one = (
   omega (arith, length-append so_far.0 (one.0 ∷ []), so_far.1),
   seen_of-push sets 1 old mid new so_far.0 one.0 so_far.2 (ap (λ n. of_octets sets n mid one.0) (omega (arith, so_far.1)) ∙ one.1),
 )
+
+-- ---- as far as files are known
+
+pub dumps_give : (known : Option Files) (sets : Sets) (dumps : List (List ℕ)) (old new : Taken) → IfSome known (λ files. seen_from sets 1 old dumps files ≡ Ok new)
+    → IsOfSomeDumps sets (length dumps) old new → DumpsGive known sets dumps old new
+dumps_give None sets dumps old new read some = some
+dumps_give (Some files) sets dumps old new read some = read
+
+-- why reading stopped
+pub dumps_stop : (known : Option Files) (steady : Type 0) (sets : Sets) (dumps : List (List ℕ)) (start : Taken) (dump : ℕ) (e : DumpError)
+    → IfSome (end_named dump e) (λ end. IfSome known (λ files. seen_from sets 1 start dumps files ≡ Err end)) → (1 ≤ dump) × (dump ≤ length dumps)
+    → IfSome known (λ files. IsOk (seen_from sets 1 start (take (dump - 1) dumps) files))
+    → (steady → e ≡ error.ReadFault → IfSome known (λ files. seen_from sets 1 start dumps files ≡ Err (Absent dump))) → StopsDumps known steady sets dumps start dump e
+dumps_stop known steady sets dumps start dump (error.Malformed place fault) stopped named before absent = stopped
+dumps_stop known steady sets dumps start dump (error.Limit kind) stopped named before absent = stopped
+dumps_stop known steady sets dumps start dump error.ReadFault stopped named before absent = (named.0, named.1, before, λ held. absent held refl)
+dumps_stop known steady sets dumps start dump error.NoMemory stopped named before absent = tt
+
+-- files that stay what they were, over a shelf that is as steady
+pub stops_as_before : (known other : Option Files) (steady held : Type 0) (sets : Sets) (dumps : List (List ℕ)) (start : Taken) (dump : ℕ) (e : DumpError) → other ≡ known → (steady → held)
+    → StopsDumps other held sets dumps start dump e → StopsDumps known steady sets dumps start dump e
+stops_as_before known other steady held sets dumps start dump (error.Malformed place fault) same holds stops = subst (λ o. DumpsEndAt o sets dumps start (Malformed place fault)) same stops
+stops_as_before known other steady held sets dumps start dump (error.Limit kind) same holds stops = subst (λ o. DumpsEndAt o sets dumps start (Limit kind dump)) same stops
+stops_as_before known other steady held sets dumps start dump error.ReadFault same holds stops =
+    (stops.0, stops.1, subst (λ o. ReadBefore o sets dumps start dump) same stops.2, λ is. subst (λ o. DumpsEndAt o sets dumps start (Absent dump)) same (stops.3 (holds is)))
+stops_as_before known other steady held sets dumps start dump error.NoMemory same holds stops = tt
+
+pub dumps_give_as : (known other : Option Files) (sets : Sets) (dumps : List (List ℕ)) (old new : Taken) → other ≡ known → DumpsGive other sets dumps old new → DumpsGive known sets dumps old new
+dumps_give_as known other sets dumps old new same gives = subst (λ o. DumpsGive o sets dumps old new) same gives
+
+pub reach_as_before : (other known : Option Files) (dumps : List (List ℕ)) (left : Option (List ℕ)) (dump : ℕ) (e : DumpError) → other ≡ known → IsDumpInReach dumps other left dump e
+    → IsDumpInReach dumps known left dump e
+reach_as_before other known dumps left dump e same reach = subst (λ o. IsDumpInReach dumps o left dump e) same reach

@@ -1,4 +1,7 @@
+pub mod Askings
+pub mod Completing
 pub mod Dumps
+pub mod Endings
 pub mod Gathered
 pub mod Notings
 pub mod Openings

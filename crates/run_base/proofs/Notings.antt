@@ -2,7 +2,6 @@
 use Rattle.std.proofs.Common.{◌≡◌, ◌≢◌, inl, inr, ℕ, List, Result, Ok, Err, sym, ◌∙◌}
 use Rattle.std.specs.Prelude.{IfOk, OnErr}
 use Rattle.run_base.specs.declared.status.Status.{Status}
-use Rattle.run_base.specs.declared.status.Status.TheVariants.{NoMemory}
 use Rattle.run_base.specs.declared.answer.Answer.{Answer}
 use Rattle.run_base.specs.Answers.{IsNoMemory, AnswersWith, note_in}
 
@@ -13,9 +12,3 @@ says (Ok t) bytes s note answer made said memory = inl (said.0, said.1 ∙ made)
 says (Err e) bytes s note answer made said memory = inr memory
 
 -- an answer for want of memory, or with this status, has no other status
-pub no_memory_not : {X : Type 0} (s : Status) (answer : Answer) → NoMemory ≢ s → IsNoMemory answer → answer.status ≡ s → X
-no_memory_not s answer other is same = absurd (other (sym is.0 ∙ same))
-
-pub answer_not : {X : Type 0} (s other : Status) (note : List ℕ) (answer : Answer) → other ≢ s → NoMemory ≢ s → AnswersWith other note answer → answer.status ≡ s → X
-answer_not s other note answer differs memory (inl is) same = absurd (differs (sym is.0 ∙ same))
-answer_not s other note answer differs memory (inr is) same = no_memory_not s answer memory is same

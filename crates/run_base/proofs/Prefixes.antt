@@ -4,7 +4,7 @@ use Rattle.std.specs.Prelude.{OnOk, OnErr, IfSome}
 use Rattle.std.specs.Io.KnownBytes.{append_known}
 use Rattle.std.proofs.Math.Seq.{take-length}
 use Rattle.tor_io.specs.Counts.{HasCause, IsQuiet}
-use Rattle.tor_io.specs.Contents.{Files, GainsPrefix}
+use Rattle.tor_io.specs.Contents.{GainsPrefix}
 use Rattle.run_base.specs.Answers.{IsNoted}
 
 pub either_way : {T E : Type 0} (r : Result T E) (old new : Option (List ℕ)) (text : List ℕ) → OnOk r (new ≡ append_known old text) → OnErr r (GainsPrefix old new text) → GainsPrefix old new text
@@ -26,9 +26,3 @@ noted Such r before now old new written text such same cause all part = record {
   whole = λ quiet. all_if_quiet r before now old new written cause all quiet ∙ ap (append_known old) same;
   prefix = subst (GainsPrefix old new) same (either_way r old new written all part);
 }
-
--- a note that was written whole, or of which a prefix was, where the files are known
-pub noted_if : (known : Option Files) (Such : Files → List ℕ → Type 0) (text : List ℕ) (before now : ℕ) (old new : Option (List ℕ)) → IfSome known (λ files. Such files text) →
-    (IsQuiet before now → new ≡ append_known old text) → GainsPrefix old new text → IfSome known (λ files. IsNoted (Such files) before now old new)
-noted_if None Such text before now old new such whole prefix = tt
-noted_if (Some files) Such text before now old new such whole prefix = record { text = text; is_note = such; whole = whole; prefix = prefix }

@@ -3,6 +3,9 @@ pub mod Frames
 pub mod Notes
 pub mod Opening
 pub mod Pieces
+pub mod Programs
+pub mod Promises
 pub mod Reach
 pub mod Reading
+pub mod Stopping
 pub mod WholeFile

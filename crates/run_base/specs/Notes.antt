@@ -83,3 +83,9 @@ too_long_note file = codes "limit|" ++ first_word file ++ codes "|0" ++ 10 ∷ [
 -- of the dump of this number, or at 0 of the file that is read before any dump
 abbrev pub read_fault_note : ℕ → List ℕ
 read_fault_note dump = codes "read-fault|" ++ decimal dump ++ 10 ∷ []
+
+-- ---- a broken rule
+
+-- of a result: this line is the first that breaks this rule, the least
+abbrev pub broken_note : ℕ → ℕ → List ℕ
+broken_note line rule = codes "no|" ++ decimal line ++ codes "|" ++ decimal rule ++ 10 ∷ []

@@ -1,16 +1,9 @@
 -- Which files a run opens: those that its words name, in their order, each as often as it is named, and none behind the one at which it
 -- ends. What is opened is told by the names for which a shelf was asked.
 use Rattle.std.specs.Prelude.{◌≡◌, ◌≤◌, ◌⊎◌, ◌++◌, ◌∷◌, [], ℕ, zero, suc, List, length, take, Option, None, Some, IsSome, ⊤}
-use Rattle.dump_read.specs.declared.error.Fault.{Fault}
-use Rattle.dump_read.specs.declared.error.LimitKind.{LimitKind}
-use Rattle.dump_read.specs.declared.error.Place.{Place}
 use Rattle.dump_read.specs.Refusals.{IsOfDump}
 use Rattle.run_base.specs.declared.answer.Refusal.{Refusal}
 use Rattle.run_base.specs.declared.answer.Refusal.TheVariants as refusal
-use Rattle.run_base.specs.declared.notes.FirstFile.{FirstFile}
-use Rattle.run_base.specs.declared.status.Status.{Status}
-use Rattle.run_base.specs.declared.status.Status.TheVariants as status
-use Rattle.run_base.specs.Notes.{malformed_note, limit_note, bad_line_note, too_long_note, read_fault_note}
 
 -- the files that words name: one that is read whole before any dump, or none; and dumps
 pub record Named : Type 0 where
@@ -53,30 +46,6 @@ OpensUpTo named (Behind many) before after = after ≡ before ++ take many (all_
 abbrev pub OpensInOrder : Option Named → (FilesEnd → Type 0) → (before after : List (List ℕ)) → Type 0
 OpensInOrder None Such before after = after ≡ before
 OpensInOrder (Some named) Such before after = (end : FilesEnd) × Such end × OpensUpTo named end before after
-
--- ---- by the status and the note
-
--- the note tells a bad line of the file that is read first, or a fault in the dump of this number
-abbrev pub TellsFault : List ℕ → ℕ → Type 0
-TellsFault text number = ((file : FirstFile) × (line : ℕ) × (number ≡ 0) × (text ≡ bad_line_note file line))
-    ⊎ ((place : Place) × (fault : Fault) × (number ≡ place.dump) × (text ≡ malformed_note place fault))
-
--- it tells that the file that is read first is too long, or a limit in the dump of this number
-abbrev pub TellsLimit : List ℕ → ℕ → Type 0
-TellsLimit text number = ((file : FirstFile) × (number ≡ 0) × (text ≡ too_long_note file))
-    ⊎ ((kind : LimitKind) × (text ≡ limit_note kind number))
-
--- A run that has a text to write has read all files. A no is told at the file that is read first, and a fault, a limit and a failed read
--- at the file that the note names. Words that are no command open none, and memory may run out anywhere.
-abbrev pub EndsSo : Status → (note : List ℕ) → FilesEnd → Type 0
-EndsSo status.Done note end = end ≡ AllRead
-EndsSo status.WriteFault note end = end ≡ AllRead
-EndsSo status.No note end = end ≡ EndedAt 0
-EndsSo status.Malformed note end = (number : ℕ) × TellsFault note number × (end ≡ EndedAt number)
-EndsSo status.Limit note end = (number : ℕ) × TellsLimit note number × (end ≡ EndedAt number)
-EndsSo status.ReadFault note end = (number : ℕ) × (note ≡ read_fault_note number) × (end ≡ EndedAt number)
-EndsSo status.Usage note end = end ≡ Behind 0
-EndsSo status.NoMemory note end = ⊤
 
 -- ---- by the reason why there is nothing to write
 

@@ -6,8 +6,6 @@ use Rattle.dump_read.specs.declared.error.DumpError.TheVariants as error
 use Rattle.dump_read.specs.declared.error.LimitKind.TheVariants.{Bytes}
 use Rattle.dump_read.specs.Reach.{StopsBounded, LeavesRestOfDump}
 use Rattle.dump_read.specs.Refusals.{IsOfDump}
-use Rattle.run_base.specs.declared.answer.Refusal.{Refusal}
-use Rattle.run_base.specs.declared.answer.Refusal.TheVariants as refusal
 use Rattle.run_base.specs.Reading.{name_of_dump}
 
 -- of the dump of this number, one of these, at which reading stopped for this, no octet behind the octet 2 ^ 40 + 12 was read, or it was
@@ -18,9 +16,3 @@ pub record IsDumpInReach (dumps : List (List ℕ)) (known : Option Files) (left 
   pub placed : IsOfDump dump e
   pub bounded : StopsBounded e (name_of_dump dumps dump) known left
   pub shown : e ≡ error.Limit Bytes → LeavesRestOfDump (name_of_dump dumps dump) known left
-
--- so it is where a run has nothing to write since the reading of the dumps stopped
-abbrev pub IsRefusalInReach : List (List ℕ) → Option Files → Option (List ℕ) → Refusal → Type 0
-IsRefusalInReach dumps known left (refusal.Words w) = ⊤
-IsRefusalInReach dumps known left (refusal.Dumps stopped) = IsDumpInReach dumps known left stopped.dump stopped.error
-IsRefusalInReach dumps known left refusal.NoMemory = ⊤

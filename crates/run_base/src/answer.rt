@@ -1,6 +1,6 @@
 //! What a run answers where it has nothing to write.
-ghost use Rattle.std.specs.Prelude.{◌≡◌, IfOk, OnErr, string_bytes};
-ghost use Rattle.run_base.specs.Answers.{note_in, Answers, AnswersUnread, IsNoMemory};
+ghost use Rattle.std.specs.Prelude.{◌≡◌, ◌≤◌, IfOk, OnErr, string_bytes};
+ghost use Rattle.run_base.specs.Answers.{note_in, Answers, AnswersUnread, IsNoMemory, IsNoted};
 
 use crate::notes::{FirstFile, limit_note, malformed_note, read_fault_note, too_long_note};
 use crate::reading::Stopped;
@@ -9,6 +9,7 @@ use crate::whole_file::Unread;
 use dump_read::DumpError;
 use std::alloc::{AllocError, Global};
 use tor_arena::List;
+use tor_io::{Sink, write_all};
 use tor_words::WordsRefused;
 
 /// Why a run has nothing to write.
@@ -82,7 +83,7 @@ impl Answer {
 
 // The answer where the reading of dumps stopped.
 #[tactic(auto, using(crate::proofs::Notings::says))]
-fn answer_to_stop(alloc: Global, stopped: Stopped) -> Answer
+pub(crate) fn answer_to_stop(alloc: Global, stopped: Stopped) -> Answer
     ensures { Answers (Refusal.Dumps stopped) result }
 {
     let dump = stopped.dump;
@@ -122,4 +123,14 @@ pub fn answer_to_unread(alloc: Global, file: FirstFile, unread: Unread) -> Answe
         Unread::TooLong => Answer::noted(Status::Limit, too_long_note(alloc, file)),
         Unread::NoMemory => Answer::plain(Status::NoMemory),
     }
+}
+
+/// Writes the note of an answer, and gives its status, which doesn't depend on where the note goes.
+pub fn note_answer<E: Sink>(answer: Answer, err: &mut E) -> Status
+    ensures status { result ≡ answer.status }
+    ensures noted { IsNoted (λ note. note ≡ note_in answer) (E.faults err.old) (E.faults err.new) (E.held err.old) (E.held err.new) }
+    ensures later { E.faults err.old ≤ E.faults err.new }
+{
+    let _ = write_all(err, answer.note());
+    answer.status
 }

@@ -1,7 +1,7 @@
 //! The notes of what ended a run.
 ghost use Rattle.std.specs.Prelude.{◌≡◌, IfOk, string_bytes};
 ghost use Rattle.run_base.specs.Notes.{rib_word, fault_word, limit_word, malformed_note, limit_note, read_fault_note};
-ghost use Rattle.run_base.specs.Notes.{first_word, bad_line_note, too_long_note};
+ghost use Rattle.run_base.specs.Notes.{first_word, bad_line_note, broken_note, too_long_note};
 
 use dump_read::{Fault, LimitKind, Place};
 use path_attrs::RibFault;
@@ -95,6 +95,15 @@ pub fn bad_line_note(alloc: Global, file: FirstFile, line: u64) -> Result<String
     let word = first_word(file);
     let mut text = format!(in alloc; "malformed|0|{line}|0|")?;
     write!(text, "{word}\n")?;
+    Ok(text)
+}
+
+/// The note of a result of which this line is the first that breaks this rule, the least.
+pub fn broken_note(alloc: Global, line: u64, rule: u8) -> Result<String, AllocError>
+    ensures { IfOk result (λ text. string_bytes text ≡ broken_note line rule) }
+{
+    let mut text = format!(in alloc; "no|{line}|")?;
+    write!(text, "{rule}\n")?;
     Ok(text)
 }
 

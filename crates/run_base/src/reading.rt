@@ -6,6 +6,7 @@ ghost use Rattle.dump_read.specs.Seen.{Absent, end_named};
 ghost use Rattle.dump_read.specs.Refusals.{IsOfDump};
 ghost use Rattle.tor_arena.specs.Limits.{max_paths};
 ghost use Rattle.dump_read.specs.Reach.{StopsBounded, LeavesRestOfDump};
+ghost use Rattle.run_base.specs.Stopping.{ReadsDumps};
 ghost use Rattle.run_base.specs.Reading.{nothing, seen_from, name_of_dump, IsOfSomeDumps};
 
 use dump_read::{DumpError, LimitKind, Taken, read_dump};
@@ -81,4 +82,24 @@ pub fn read_dumps<H: Shelf>(
         }
     }
     Ok(())
+}
+
+/// The same on top of what was taken in before, which is let go where reading stops.
+pub fn read_onto<H: Shelf>(
+    alloc: Global,
+    shelf: &mut H,
+    dumps: &[Name],
+    sets: Sets,
+    start: Taken,
+) -> Result<Taken, Stopped>
+    ensures { ReadsDumps H.Shelf sets dumps.now start result shelf.old shelf.new }
+{
+    let mut taken = start;
+    match read_dumps(alloc, shelf, dumps, sets, &mut taken) {
+        Ok(()) => Ok(taken),
+        Err(stopped) => {
+            drop(taken);
+            Err(stopped)
+        }
+    }
 }

@@ -9,22 +9,23 @@ use Rattle.dump_read.specs.declared.taking.Taken.{Taken}
 use Rattle.result_text.specs.declared.file.ResultFile.{ResultFile}
 use Rattle.result_rules.specs.declared.verdict.Verdict.TheVariants.{Yes}
 use Rattle.result_rules.specs.Against.{JudgesAgainst}
-use Rattle.tor_words.specs.declared.settings.Mode.{Mode}
-use Rattle.tor_words.specs.declared.settings.Mode.TheVariants.{Labels, Summary, Migrate, Resume}
-use Rattle.tor_words.specs.declared.settings.Source.{Source}
-use Rattle.tor_words.specs.declared.settings.Source.TheVariants as source
-use Rattle.tor_words.specs.Given.{BoundsLaw, IsWrittenOf}
+use Rattle.tor_words.specs.declared.task.Made.TheVariants as made
+use Rattle.tor_words.specs.Given.{BoundsLaw, dumps_in}
 use Rattle.tor_words.specs.declared.settings.Settings.{Settings}
 use Rattle.tor_words.specs.declared.check_settings.CheckSettings.{CheckSettings}
 use Rattle.tor_words.specs.CheckGiven.{check_settings_given}
-use Rattle.torcheck_run.specs.Judging.{CanBeJudged, IsAccepted, IsVerdict, JudgesByDumps, seen_for}
-use Rattle.torcheck_run.specs.Limits.{max_result}
-use Rattle.torcheck_run.proofs.Comings.{OneValue, same_file, one_verdict}
+use Rattle.torcheck_run.specs.Judging.{CanBeJudged, IsVerdict, JudgesByDumps, seen_for}
+use Rattle.result_file.specs.Ruled.{IsAccepted}
+use Rattle.result_file.specs.Limits.{max_result}
+use Rattle.result_file.proofs.OneRuling.{OneValue, same_file}
+use Rattle.torcheck_run.proofs.Comings.{one_verdict}
 use Rattle.run_base.specs.Reading.{nothing, seen_from}
 use Rattle.tor_output.specs.Accepting.{FaithfulLaw, TableLaw}
-use Rattle.tor_output.specs.Seen.{seen, seen_in}
-use Rattle.tor_output.specs.Output.{IsOutputIn, Faithful}
+use Rattle.tor_output.specs.Seen.{seen}
+use Rattle.tor_output.specs.Output.{Faithful}
+use Rattle.tor_output.proofs.GradingLemmas.{is_made}
 use Rattle.tor_output.proofs.Joining.{seen_by}
+use Rattle.tor_output.proofs.SeenLemmas.{made_of_files}
 use Rattle.tor_output.proofs.WiderLimit.{widened, all_files}
 use Rattle.run_laws.specs.Agreement.{AgreementLaw, IsAgreedOn}
 
@@ -77,27 +78,19 @@ module _ (law : OneValue) (files : Files) (file : ResultFile) (text : List ℕ) 
 
 -- under the limit of a check dumps give what they gave
 pub sees : (settings : Settings) (files : Files) (known : Option (List Given)) (taken : Taken) (file : ResultFile) → settings.max_paths ≤ max_paths →
-    seen settings files ≡ Ok taken → Faithful settings known taken file → seen_for file settings.dumps files ≡ Ok (widened max_paths taken)
+    seen settings files ≡ Ok taken → Faithful settings known taken file → seen_for file (dumps_in settings) files ≡ Ok (widened max_paths taken)
 sees settings files known taken file few gives faithful =
-    let wide = all_files settings.max_paths max_paths settings.sets 1 (nothing settings.max_paths) taken settings.dumps files
+    let wide = all_files settings.max_paths max_paths settings.sets 1 (nothing settings.max_paths) taken (dumps_in settings) files
     (record { same = refl; few = omega arith; less = few }) gives in
-    subst (λ (s : Sets). seen_from s 1 (nothing max_paths) settings.dumps files ≡ Ok (widened max_paths taken)) (sym faithful.its_sets) wide
-
--- a run that writes a result reads files
-of_files : (from : Source) (mode : Mode) → mode ≡ Labels → IsWrittenOf from mode → from ≡ source.Files
-of_files source.Files mode labels written = refl
-of_files (source.Sample seed) mode labels written = let e : Labels ≡ Summary = sym labels ∙ written in absurd cc
-of_files (source.Result name) mode labels written = let e : Labels ≡ Migrate = sym labels ∙ written in absurd cc
-of_files (source.Earlier name) mode labels written = let e : Labels ≡ Resume = sym labels ∙ written in absurd cc
+    subst (λ (s : Sets). seen_from s 1 (nothing max_paths) (dumps_in settings) files ≡ Ok (widened max_paths taken)) (sym faithful.its_sets) wide
 
 pub agreement : OneValue → BoundsLaw → FaithfulLaw → TableLaw → AgreementLaw
-agreement law bounds faithful_is table_is words settings files known taken output given labels comes asked names later same =
-    let (file, faithful, text, note) = subst (λ (m : Mode). IsOutputIn m settings known taken output) labels asked in
+agreement law bounds faithful_is table_is words settings files known taken output given makes comes asked names later same =
+    let (file, faithful, text, note) = is_made settings.job made.Result settings known taken output makes asked in
     let within = bounds words settings given in
-    let from = of_files settings.source settings.mode labels within.written in
-    let gives : seen settings files ≡ Ok taken = subst (λ (s : Source). seen_in s settings files ≡ Ok taken) from comes.1 in
+    let gives = made_of_files settings.job made.Result settings files taken makes comes.1 in
     let rows = table_is words settings files known taken given comes in
     let accepted = (faithful_is words settings known taken file given rows.1 rows.0 faithful).accepted in
     agreed_beside law later file output.text (record { text = text; rules = accepted }) names (widened max_paths taken)
-    (seen_by file.sets 1 (nothing max_paths) names settings.dumps later files same ∙ sees settings files known taken file within.most gives faithful)
+    (seen_by file.sets 1 (nothing max_paths) names (dumps_in settings) later files same ∙ sees settings files known taken file within.most gives faithful)
     (faithful.its_counts, faithful.paths)

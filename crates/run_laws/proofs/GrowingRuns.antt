@@ -24,7 +24,7 @@ use Rattle.result_laws.specs.Existing.{SomeResultLaw}
 use Rattle.result_laws.specs.Growing.{ForcedStaysLaw}
 use Rattle.run_base.specs.Reading.{nothing, seen_from, seen_of}
 use Rattle.run_base.proofs.Values as values
-use Rattle.tor_words.specs.Given.{BoundsLaw}
+use Rattle.tor_words.specs.Given.{BoundsLaw, dumps_in}
 use Rattle.tor_output.specs.Resuming.{IsOfDumps}
 use Rattle.tor_output.specs.Accepting.{TableLaw}
 use Rattle.tor_output.specs.First.{first_in}
@@ -48,7 +48,7 @@ pub resumed_stays_law : BoundsLaw → SelfAcceptanceLaw → ForcedStaysLaw → R
 resumed_stays_law bounds accept stays words settings files earlier taken file given comes resumed =
     let within = bounds words settings given in
     let rules = (is_accepted (first_in settings) files earlier comes.0).1.rules in
-    let rows = joined_rows earlier settings.max_paths settings.dumps files taken within.most rules comes.1 in
+    let rows = joined_rows earlier settings.max_paths (dumps_in settings) files taken within.most rules comes.1 in
     let own = sym (same_givens earlier earlier.givens refl) in
     let vouched = accept earlier.givens earlier.sets settings.ratio taken.table.rows taken.counts file within.ratio rows
     (subst (λ (gs : List Given). NameTwo gs) own (name_two earlier (rules HeadSound))) (subst (λ (gs : List Given). NameOnce gs) own (name_once earlier (rules HeadSound))) resumed.0 in

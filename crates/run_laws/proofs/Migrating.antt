@@ -24,9 +24,14 @@ use Rattle.run_base.specs.Reading.{nothing, seen_from}
 use Rattle.run_base.specs.WholeFile.{IsLongFile}
 use Rattle.tor_arena.specs.Limits.{max_paths}
 use Rattle.tor_words.specs.declared.check_settings.CheckSettings.{CheckSettings}
-use Rattle.torcheck_run.specs.Limits.{max_result}
-use Rattle.torcheck_run.specs.Judging.{BreaksRule, IsVerdict, JudgesByDumps, seen_for, Outcome, Judged, NoResult, TooLong, Ends, SettingsGive}
-use Rattle.torcheck_run.proofs.Comings.{OneValue, same_file}
+use Rattle.result_file.specs.Limits.{max_result}
+use Rattle.result_file.specs.Ruled.{BreaksRule}
+use Rattle.run_base.specs.Programs.{Outcome, Makes, NoFile, TooLong, BadLine, Breaks, Lacks, Ends, HasOctets}
+use Rattle.torcheck_run.specs.declared.judging.Judged.{Judged}
+use Rattle.torcheck_run.specs.declared.judging.Judged.TheVariants.{ByFile, ByDumps}
+use Rattle.torcheck_run.specs.Checking.{GivesOutcome, Holds, JudgesDumps}
+use Rattle.torcheck_run.specs.Judging.{JudgesByDumps, seen_for}
+use Rattle.result_file.proofs.OneRuling.{OneValue, same_file}
 use Rattle.tor_output.specs.Output.{migrated}
 use Rattle.run_laws.specs.Agreement.{MigrateLaw}
 use Rattle.run_laws.specs.SelfGrading.{KeepDumps}
@@ -204,28 +209,6 @@ module _ (law : OneValue) (f : ResultFile) (before after : List ℕ) (old : IsTe
   broken_back (No line rule) (inr h) =
       inr (f, old, refused_back f line rule (subst (λ (g : ResultFile). IsRefused g line rule) (same_file law after h.0 (migrated f) h.1 new) h.2))
 
-  verdict_on : (dumps : List (List ℕ)) (files : Files) (v : Verdict) → IsVerdict before dumps files v → IsVerdict after dumps files v
-  verdict_on dumps files v (inl h) = inl (broken_on v h)
-  verdict_on dumps files v (inr h) =
-      let same = same_file law before h.0 f h.1.text old in
-      let rules : Accepts f = subst Accepts same h.1.rules in
-      inr (
-        migrated f,
-        record { text = new; rules = λ rule. met_on f rule (rules rule) },
-        dumps_on f dumps files v (subst (λ (g : ResultFile). JudgesByDumps g dumps files v) same h.2),
-      )
-
-  verdict_back : (dumps : List (List ℕ)) (files : Files) (v : Verdict) → IsVerdict after dumps files v → IsVerdict before dumps files v
-  verdict_back dumps files v (inl h) = inl (broken_back v h)
-  verdict_back dumps files v (inr h) =
-      let same = same_file law after h.0 (migrated f) h.1.text new in
-      let rules : Accepts (migrated f) = subst Accepts same h.1.rules in
-      inr (
-        f,
-        record { text = old; rules = λ rule. met_back f rule (rules rule) },
-        dumps_back f dumps files v (subst (λ (g : ResultFile). JudgesByDumps g dumps files v) same h.2),
-      )
-
 -- ---- the result that is written
 
 -- a list of givens, empty where there is none
@@ -271,9 +254,14 @@ dumps_kept : (f : ResultFile) (dumps : List (List ℕ)) (files later : Files) �
 dumps_kept f [] files later keep v h = h
 dumps_kept f (dump ∷ dumps) files later keep v h = (h.0, seen_kept (dump ∷ dumps) files later keep f (Ok h.0) h.1, h.2)
 
-verdict_kept : (bytes : List ℕ) (dumps : List (List ℕ)) (files later : Files) → KeepDumps dumps files later → (v : Verdict) → IsVerdict bytes dumps files v → IsVerdict bytes dumps later v
-verdict_kept bytes dumps files later keep v (inl h) = inl h
-verdict_kept bytes dumps files later keep v (inr h) = inr (h.0, h.1, dumps_kept h.0 dumps files later keep v h.2)
+-- as far as files are known
+to_dumps : (f : ResultFile) (dumps : List (List ℕ)) (files : Files) (v : Verdict) → JudgesByDumps f dumps files v → JudgesDumps (Some files) f dumps v
+to_dumps f [] files v h = h
+to_dumps f (dump ∷ dumps) files v h = h
+
+of_dumps : (f : ResultFile) (dumps : List (List ℕ)) (files : Files) (v : Verdict) → JudgesDumps (Some files) f dumps v → JudgesByDumps f dumps files v
+of_dumps f [] files v h = h
+of_dumps f (dump ∷ dumps) files v h = h
 
 -- a text of version 2 stays as it is, and the text of version 1 is as long
 same_text : (f : ResultFile) (before after : List ℕ) → IsTextOf f before → IsTextOf (migrated f) after → (givens : List Given) → f.givens ≡ Some givens → after ≡ before
@@ -308,47 +296,62 @@ module _ (law : OneValue) (f : ResultFile) (before after : List ℕ) (old : IsTe
   back : KeepDumps check.dumps later files
   back name i = sym (keep name i)
 
-  outcome_on : (o : Outcome) → SettingsGive check files o → SettingsGive check later o
-  outcome_on (Judged v) h =
-      let same = its_bytes check.result before files was h.0 h.1.there in (
-        after,
-        record { there = is; short = subst (λ n. n ≤ max_result) (ap length same ∙ sym long) h.1.short },
-        verdict_kept after check.dumps files later keep v
-            (verdict_on law f before after old new check.dumps files v (subst (λ b. IsVerdict b check.dumps files v) same h.2)),
-      )
-  outcome_on NoResult h = absurd (not_absent check.result before files was h)
-  outcome_on TooLong h = long_file check.result after later is (subst (λ n. max_result < n) (sym long) (is_long check.result before files was h))
-  outcome_on (Ends end) h =
-      let same = its_bytes check.result before files was h.0 h.2.there in
-      let file = same_file law h.0 h.1 f h.3.text (subst (IsTextOf f) (sym same) old) in
-      let rules : Accepts f = subst Accepts file h.3.rules in (
-        after,
-        migrated f,
-        record { there = is; short = subst (λ n. n ≤ max_result) (ap length same ∙ sym long) h.2.short },
-        record { text = new; rules = λ rule. met_on f rule (rules rule) },
-        seen_kept check.dumps files later keep f (Err end) (subst (λ (g : ResultFile). seen_for g check.dumps files ≡ Err end) file h.4),
-      )
+  now : {bytes : List ℕ} → HasOctets (Some files) check.result max_result bytes → HasOctets (Some later) check.result max_result after
+  now {bytes = bytes} has =
+      let same = its_bytes check.result before files was bytes has.there in
+      record { there = is; short = subst (λ n. n ≤ max_result) (ap length same ∙ sym long) has.short }
 
-  outcome_back : (o : Outcome) → SettingsGive check later o → SettingsGive check files o
-  outcome_back (Judged v) h =
-      let same = its_bytes check.result after later is h.0 h.1.there in (
-        before,
-        record { there = was; short = subst (λ n. n ≤ max_result) (ap length same ∙ long) h.1.short },
-        verdict_kept before check.dumps later files back v
-            (verdict_back law f before after old new check.dumps later v (subst (λ b. IsVerdict b check.dumps later v) same h.2)),
-      )
-  outcome_back NoResult h = absurd (not_absent check.result after later is h)
+  then : {bytes : List ℕ} → HasOctets (Some later) check.result max_result bytes → HasOctets (Some files) check.result max_result before
+  then {bytes = bytes} has =
+      let same = its_bytes check.result after later is bytes has.there in
+      record { there = was; short = subst (λ n. n ≤ max_result) (ap length same ∙ long) has.short }
+
+  -- the result that the file holds is this one, and later its text of version 2
+  this : (g : ResultFile) → Holds check (Some files) g → g ≡ f
+  this g holds = same_file law holds.0 g f holds.2.text (subst (IsTextOf f) (sym (its_bytes check.result before files was holds.0 holds.1.there)) old)
+
+  that : (g : ResultFile) → Holds check (Some later) g → g ≡ migrated f
+  that g holds = same_file law holds.0 g (migrated f) holds.2.text (subst (IsTextOf (migrated f)) (sym (its_bytes check.result after later is holds.0 holds.1.there)) new)
+
+  holds_on : (g : ResultFile) → Holds check (Some files) g → Holds check (Some later) (migrated f)
+  holds_on g holds =
+      let rules : Accepts f = subst Accepts (this g holds) holds.2.rules in
+      (after, now holds.1, record { text = new; rules = λ rule. met_on f rule (rules rule) })
+
+  holds_back : (g : ResultFile) → Holds check (Some later) g → Holds check (Some files) f
+  holds_back g holds =
+      let rules : Accepts (migrated f) = subst Accepts (that g holds) holds.2.rules in
+      (before, then holds.1, record { text = old; rules = λ rule. met_back f rule (rules rule) })
+
+  outcome_on : (o : Outcome Judged) → GivesOutcome check (Some files) o → GivesOutcome check (Some later) o
+  outcome_on (Makes (ByFile l r)) h =
+      let same = its_bytes check.result before files was h.0 h.1.there in
+      (after, now h.1, broken_on law f before after old new (No l r) (subst (λ b. BreaksRule b (No l r)) same h.2))
+  outcome_on (Makes (ByDumps v)) h =
+      let judged = of_dumps f check.dumps files v (subst (λ g. JudgesDumps (Some files) g check.dumps v) (this h.0 h.1) h.2) in
+      (migrated f, holds_on h.0 h.1, to_dumps (migrated f) check.dumps later v (dumps_kept (migrated f) check.dumps files later keep v (dumps_on f check.dumps files v judged)))
+  outcome_on NoFile h = absurd (not_absent check.result before files was h)
+  outcome_on TooLong h = long_file check.result after later is (subst (λ n. max_result < n) (sym long) (is_long check.result before files was h))
+  outcome_on (BadLine line) h = h
+  outcome_on (Breaks line rule) h = h
+  outcome_on (Lacks note) h = h
+  outcome_on (Ends end) h =
+      (migrated f, holds_on h.0 h.1, seen_kept check.dumps files later keep f (Err end) (subst (λ (g : ResultFile). seen_for g check.dumps files ≡ Err end) (this h.0 h.1) h.2))
+
+  outcome_back : (o : Outcome Judged) → GivesOutcome check (Some later) o → GivesOutcome check (Some files) o
+  outcome_back (Makes (ByFile l r)) h =
+      let same = its_bytes check.result after later is h.0 h.1.there in
+      (before, then h.1, broken_back law f before after old new (No l r) (subst (λ b. BreaksRule b (No l r)) same h.2))
+  outcome_back (Makes (ByDumps v)) h =
+      let judged = of_dumps (migrated f) check.dumps later v (subst (λ g. JudgesDumps (Some later) g check.dumps v) (that h.0 h.1) h.2) in
+      (f, holds_back h.0 h.1, to_dumps f check.dumps files v (dumps_kept f check.dumps later files back v (dumps_back f check.dumps later v judged)))
+  outcome_back NoFile h = absurd (not_absent check.result after later is h)
   outcome_back TooLong h = long_file check.result before files was (subst (λ n. max_result < n) long (is_long check.result after later is h))
+  outcome_back (BadLine line) h = h
+  outcome_back (Breaks line rule) h = h
+  outcome_back (Lacks note) h = h
   outcome_back (Ends end) h =
-      let same = its_bytes check.result after later is h.0 h.2.there in
-      let file = same_file law h.0 h.1 (migrated f) h.3.text (subst (IsTextOf (migrated f)) (sym same) new) in
-      let rules : Accepts (migrated f) = subst Accepts file h.3.rules in (
-        before,
-        f,
-        record { there = was; short = subst (λ n. n ≤ max_result) (ap length same ∙ long) h.2.short },
-        record { text = old; rules = λ rule. met_back f rule (rules rule) },
-        seen_kept check.dumps later files back f (Err end) (subst (λ (g : ResultFile). seen_for g check.dumps later ≡ Err end) file h.4),
-      )
+      (f, holds_back h.0 h.1, seen_kept check.dumps later files back f (Err end) (subst (λ (g : ResultFile). seen_for g check.dumps later ≡ Err end) (that h.0 h.1) h.2))
 
 pub migrate_law : OneValue → MigrateLaw
 migrate_law law f before after old new = (

@@ -20,9 +20,10 @@ use Rattle.rel_infer.proofs.OneGivenResult.{given_result_law}
 use Rattle.run_base.specs.Reading.{nothing, seen_from, seen_of}
 use Rattle.run_base.proofs.Values as values
 use Rattle.tor_words.specs.declared.settings.Settings.{Settings}
-use Rattle.tor_words.specs.Given.{BoundsLaw}
-use Rattle.torcheck_run.specs.Judging.{IsAccepted, seen_for}
-use Rattle.torcheck_run.proofs.Comings.{OneValue}
+use Rattle.tor_words.specs.Given.{BoundsLaw, dumps_in}
+use Rattle.result_file.specs.Ruled.{IsAccepted}
+use Rattle.torcheck_run.specs.Judging.{seen_for}
+use Rattle.result_file.proofs.OneRuling.{OneValue}
 use Rattle.tor_output.specs.First.{First, Nothing, Givens, Result, Earlier, TakesUp, first_in}
 use Rattle.tor_output.specs.Output.{IsResumed}
 use Rattle.tor_output.specs.Seen.{joined, taken_up}
@@ -69,8 +70,8 @@ one_result known' known sets' sets ratio' ratio rows' rows counts' counts file o
 pub of_dumps_law : BoundsLaw → OfDumpsLaw
 of_dumps_law bounds words settings files known taken file given gives faithful =
     let sees_all = sees settings files known taken file (bounds words settings given).most gives faithful in
-    let (dumps, hold) = octets_of file.sets 1 (nothing max_paths) (widened max_paths taken) settings.dumps files sees_all in
-    (dumps, hold, (widened max_paths taken, sym (held file.sets 1 (nothing max_paths) settings.dumps dumps files hold) ∙ sees_all, sym faithful.paths, sym faithful.its_counts))
+    let (dumps, hold) = octets_of file.sets 1 (nothing max_paths) (widened max_paths taken) (dumps_in settings) files sees_all in
+    (dumps, hold, (widened max_paths taken, sym (held file.sets 1 (nothing max_paths) (dumps_in settings) dumps files hold) ∙ sees_all, sym faithful.paths, sym faithful.its_counts))
 
 -- under two limits that aren't met dumps give the same
 under_wider : (sets : Sets) (limit most : ℕ) (dumps : List (List ℕ)) (files : Files) (a b : Taken) → limit ≤ most → seen_from sets 1 (nothing limit) dumps files ≡ Ok a
@@ -91,15 +92,15 @@ under_any sets limit other dumps files a b gives gives' = elim (cases_order limi
 ]
 
 as_of_one_run : (settings : Settings) (files : Files) (earlier : ResultFile) (taken : Taken) (file : ResultFile) → settings.max_paths ≤ max_paths
-    → joined earlier settings.max_paths settings.dumps files ≡ Ok taken → IsResumed settings earlier taken file → IsAsOfOneRun settings files earlier file
+    → joined earlier settings.max_paths (dumps_in settings) files ≡ Ok taken → IsResumed settings earlier taken file → IsAsOfOneRun settings files earlier file
 as_of_one_run settings files earlier taken file few joins_to resumed before dumps is_of hold whole other_files gave other sets ratio all sees faithful =
     let (first, gives, first_rows, first_counts) = is_of in
     let (after, sees_both, rows, counts) =
     dumps_of_both earlier settings.max_paths before dumps Some first taken few (by_octets earlier.sets 1 (nothing max_paths) before ∙ gives) first_rows first_counts
-    (sym (joined_by earlier settings.max_paths settings.dumps dumps files hold) ∙ joins_to) in
+    (sym (joined_by earlier settings.max_paths (dumps_in settings) dumps files hold) ∙ joins_to) in
     let sees_all : seen_from earlier.sets 1 (nothing whole.max_paths) (before ++ dumps) Some ≡ Ok gave =
-    sym (seen_by earlier.sets 1 (nothing whole.max_paths) whole.dumps (before ++ dumps) other_files Some all)
-    ∙ subst (λ (s : Sets). seen_from s 1 (nothing whole.max_paths) whole.dumps other_files ≡ Ok gave) sets sees in
+    sym (seen_by earlier.sets 1 (nothing whole.max_paths) (dumps_in whole) (before ++ dumps) other_files Some all)
+    ∙ subst (λ (s : Sets). seen_from s 1 (nothing whole.max_paths) (dumps_in whole) other_files ≡ Ok gave) sets sees in
     let same = under_any earlier.sets whole.max_paths max_paths (before ++ dumps) Some gave after sees_all sees_both in
     one_result earlier.givens earlier.givens whole.sets earlier.sets whole.ratio settings.ratio gave.table.rows taken.table.rows gave.counts taken.counts file other
     refl sets ratio (same.0 ∙ rows) (same.1 ∙ counts) resumed.0 faithful
@@ -115,18 +116,18 @@ pub in_parts_law : InPartsLaw
 in_parts_law first second whole files later other_files earlier between file other some rest all joins_some resumed joins_rest resumed_again ratio dumps joins_all resumed_all =
     let mine = resumed.0 in
     let most = first.max_paths + second.max_paths + whole.max_paths in
-    let gives_first = wider earlier first.max_paths most first.dumps files some (omega arith) joins_some in
-    let gives_second : seen_from earlier.sets 1 (taken_up between most) second.dumps later ≡ Ok (widened most rest) =
-    subst (λ (s : Sets). seen_from s 1 (taken_up between most) second.dumps later ≡ Ok (widened most rest)) mine.its_sets
-    (wider between second.max_paths most second.dumps later rest (omega arith) joins_rest) in
-    let gives_whole = wider earlier whole.max_paths most whole.dumps other_files all (omega arith) joins_all in
-    let (one, hold_one) = octets_of earlier.sets 1 (taken_up earlier most) (widened most some) first.dumps files gives_first in
-    let (two, hold_two) = octets_of earlier.sets 1 (taken_up between most) (widened most rest) second.dumps later gives_second in
-    let both : map other_files whole.dumps ≡ map Some (one ++ two) =
+    let gives_first = wider earlier first.max_paths most (dumps_in first) files some (omega arith) joins_some in
+    let gives_second : seen_from earlier.sets 1 (taken_up between most) (dumps_in second) later ≡ Ok (widened most rest) =
+    subst (λ (s : Sets). seen_from s 1 (taken_up between most) (dumps_in second) later ≡ Ok (widened most rest)) mine.its_sets
+    (wider between second.max_paths most (dumps_in second) later rest (omega arith) joins_rest) in
+    let gives_whole = wider earlier whole.max_paths most (dumps_in whole) other_files all (omega arith) joins_all in
+    let (one, hold_one) = octets_of earlier.sets 1 (taken_up earlier most) (widened most some) (dumps_in first) files gives_first in
+    let (two, hold_two) = octets_of earlier.sets 1 (taken_up between most) (widened most rest) (dumps_in second) later gives_second in
+    let both : map other_files (dumps_in whole) ≡ map Some (one ++ two) =
     dumps ∙ ap₂ (λ (x y : List (Option (List ℕ))). x ++ y) hold_one hold_two ∙ sym (map-append (λ (o : List ℕ). Some o) one two) in
-    let gives_some = sym (seen_by earlier.sets 1 (taken_up earlier most) first.dumps one files Some hold_one) ∙ gives_first in
-    let gives_rest = sym (seen_by earlier.sets 1 (taken_up between most) second.dumps two later Some hold_two) ∙ gives_second in
-    let gives_all = sym (seen_by earlier.sets 1 (taken_up earlier most) whole.dumps (one ++ two) other_files Some both) ∙ gives_whole in
+    let gives_some = sym (seen_by earlier.sets 1 (taken_up earlier most) (dumps_in first) one files Some hold_one) ∙ gives_first in
+    let gives_rest = sym (seen_by earlier.sets 1 (taken_up between most) (dumps_in second) two later Some hold_two) ∙ gives_second in
+    let gives_all = sym (seen_by earlier.sets 1 (taken_up earlier most) (dumps_in whole) (one ++ two) other_files Some both) ∙ gives_whole in
     let on = behind earlier.sets 1 (taken_up earlier most) (widened most some) one two Some gives_some in
     let same_some = made_of (widened most some) between most refl (sym mine.paths) (sym mine.its_counts) in
     let more = files_beside earlier.sets 1 on.0 some.files (taken_up between most) (widened most rest) two Some gives_rest in
@@ -162,7 +163,7 @@ pub acceptance_law : BoundsLaw → SelfAcceptanceLaw → OneValue → ResumedAcc
 acceptance_law bounds accept law words settings files earlier taken file text given comes resumed is_text =
     let within = bounds words settings given in
     let rules = (is_accepted (first_in settings) files earlier comes.0).1.rules in
-    let rows = joined_rows earlier settings.max_paths settings.dumps files taken within.most rules comes.1 in
+    let rows = joined_rows earlier settings.max_paths (dumps_in settings) files taken within.most rules comes.1 in
     let own = sym (same_givens earlier earlier.givens refl) in
     let vouched = accept earlier.givens earlier.sets settings.ratio taken.table.rows taken.counts file within.ratio rows
     (subst (λ (gs : List Given). NameTwo gs) own (name_two earlier (rules HeadSound))) (subst (λ (gs : List Given). NameOnce gs) own (name_once earlier (rules HeadSound))) resumed.0 in
@@ -174,7 +175,7 @@ acceptance_law bounds accept law words settings files earlier taken file text gi
       beside = beside accepted;
     }
   where
-    beside : IsAccepted file text → (before dumps : List (List ℕ)) → IsOfDumps earlier before → Hold files settings.dumps dumps → (names : List (List ℕ)) (later : Files)
+    beside : IsAccepted file text → (before dumps : List (List ℕ)) → IsOfDumps earlier before → Hold files (dumps_in settings) dumps → (names : List (List ℕ)) (later : Files)
         → Hold later names (before ++ dumps) → IsAgreedOn names later text
     beside accepted before dumps is_of hold names later all =
         let (now, hold_now, on) = of_both settings files earlier taken file (bounds words settings given).most comes.1 resumed in

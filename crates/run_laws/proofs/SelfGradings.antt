@@ -23,14 +23,10 @@ use Rattle.as_rel.specs.Grading.{IsGrade, grade, steps_on}
 use Rattle.as_rel.proofs.KeptLemmas.{free_exactly, never_unknown}
 use Rattle.tor_words.specs.declared.settings.Settings.{Settings}
 use Rattle.tor_words.specs.declared.grade_settings.GradeSettings.{GradeSettings}
-use Rattle.tor_words.specs.declared.settings.Source.{Source}
-use Rattle.tor_words.specs.declared.settings.Source.TheVariants as source
-use Rattle.tor_words.specs.declared.settings.Mode.{Mode}
-use Rattle.tor_words.specs.declared.settings.Mode.TheVariants.{Serial, Summary}
-use Rattle.tor_words.specs.Given.{BoundsLaw, IsWrittenOf}
+use Rattle.tor_words.specs.declared.task.Made.TheVariants.{Serial}
+use Rattle.tor_words.specs.Given.{BoundsLaw, dumps_in}
 use Rattle.torgrade_run.specs.GradeText.{is_free, is_unknown, cone_text, grades_of, grading_text, totals_of}
-use Rattle.torgrade_run.specs.Outcomes.{seen_by}
-use Rattle.tor_output.specs.Seen.{seen, seen_in}
+use Rattle.tor_output.proofs.SeenLemmas.{made_of_files}
 use Rattle.tor_output.proofs.WiderLimit.{widened, all_files}
 use Rattle.tor_output.proofs.Joining as joining
 use Rattle.run_laws.specs.SelfGrading.{SelfGradingLaw}
@@ -83,35 +79,23 @@ same_taken : (a b : Taken) → ◌≡◌ {A = Result Taken DumpsEnd} (Ok a) (Ok 
 same_taken a b e = cc
 
 sees_all : (settings : Settings) (files : Files) (taken : Taken) (dumps : List (List ℕ)) → settings.max_paths ≤ max_paths → settings.sets ≡ Cut →
-    seen_from settings.sets 1 (nothing settings.max_paths) dumps files ≡ Ok taken → seen_by dumps files ≡ Ok (widened max_paths taken)
+    seen_from settings.sets 1 (nothing settings.max_paths) dumps files ≡ Ok taken → seen_from Cut 1 (nothing max_paths) dumps files ≡ Ok (widened max_paths taken)
 sees_all settings files taken dumps few cut sees =
     all_files settings.max_paths max_paths Cut 1 (nothing settings.max_paths) taken dumps files (record { same = refl; few = omega arith; less = few })
     (subst (λ (s : Sets). seen_from s 1 (nothing settings.max_paths) dumps files ≡ Ok taken) cut sees)
 
--- lines of serial-1 are written of files, and of no sample
-of_files : (source : Source) (mode : Mode) (settings : Settings) (files : Files) (taken : Taken) → IsWrittenOf source mode → mode ≡ Serial →
-    seen_in source settings files ≡ Ok taken → seen settings files ≡ Ok taken
-of_files source.Files mode settings files taken written is sees = sees
-of_files (source.Sample seed) mode settings files taken written is sees = let e : Serial ≡ Summary = sym is ∙ written in absurd (cc e)
-of_files (source.Result name) mode settings files taken written is sees = sees
-of_files (source.Earlier name) mode settings files taken written is sees = sees
-
 pub self_grading : BoundsLaw → SelfGradingLaw
-self_grading bounds words settings files known taken rel given serial cut comes_to exact grade_words grading later text graded_given there dumps is =
-    let sees = joining.seen_by settings.sets 1 (nothing settings.max_paths) grading.dumps settings.dumps later files dumps
-    ∙ of_files settings.source settings.mode settings files taken (bounds words settings given).written serial comes_to.1 in
-    let (g, g_given, comes) = is.reads in
-    let (bytes, is_rel, read, gave) = comes in
-    let same : g ≡ grading = same_Some g grading (sym g_given ∙ graded_given) in
-    let bytes_same : bytes ≡ rel = same_Some bytes rel (sym is_rel.there ∙ ap (λ (s : GradeSettings). later s.rel) same ∙ there) in
-    let lines_same : is.rel ≡ exact.lines = same_lines is.rel exact.lines (sym read ∙ ap rel_in bytes_same ∙ exact.read) in
+self_grading bounds words settings files known taken rel given serial cut comes_to exact grade_words grading later text graded_given there dumps basis note gives is =
+    let sees = joining.seen_by settings.sets 1 (nothing settings.max_paths) grading.dumps (dumps_in settings) later files dumps
+    ∙ made_of_files settings.job Serial settings files taken serial comes_to.1 in
+    let bytes_same : gives.0.0 ≡ rel = same_Some gives.0.0 rel (sym gives.0.1.there ∙ there) in
+    let lines_same : basis.rel ≡ exact.lines = same_lines basis.rel exact.lines (sym gives.0.2 ∙ ap rel_in bytes_same ∙ exact.read) in
     let wide = sees_all settings later taken grading.dumps (bounds words settings given).most cut sees in
-    let gives : seen_by grading.dumps later ≡ Ok is.taken = subst (λ (s : GradeSettings). seen_by s.dumps later ≡ Ok is.taken) same gave in
-    let taken_same : is.taken ≡ widened max_paths taken = same_taken is.taken (widened max_paths taken) (sym gives ∙ wide) in
+    let taken_same : basis.taken ≡ widened max_paths taken = same_taken basis.taken (widened max_paths taken) (sym gives.1 ∙ wide) in
     record {
-      rel = is.rel;
-      cone = cone_text is.found;
-      is_text = is.is_text ∙ ap (λ (t : Taken). grading_text is.rel t.table.rows is.found) taken_same;
+      rel = basis.rel;
+      cone = cone_text is.0;
+      is_text = is.2 ∙ ap (λ (t : Taken). grading_text basis.rel t.table.rows is.0) taken_same;
       keeps = exact.graded.keeps;
       kept = exact.graded.kept;
       free = subst (λ (ls : List RelLine). map is_free (grades_of ls taken.table.rows) ≡ exact.graded.keeps) (sym lines_same)

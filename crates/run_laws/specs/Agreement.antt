@@ -7,15 +7,18 @@ use Rattle.result_text.specs.declared.file.ResultFile.{ResultFile}
 use Rattle.result_text.specs.Grammar.{IsTextOf}
 use Rattle.result_rules.specs.declared.verdict.Verdict.{Verdict}
 use Rattle.result_rules.specs.declared.verdict.Verdict.TheVariants.{Yes}
-use Rattle.tor_words.specs.declared.settings.Mode.TheVariants.{Labels}
+use Rattle.tor_words.specs.declared.task.Made.TheVariants as made
 use Rattle.tor_words.specs.declared.settings.Settings.{Settings}
 use Rattle.tor_words.specs.declared.check_settings.CheckSettings.{CheckSettings}
 use Rattle.tor_words.specs.CheckGiven.{check_settings_given}
-use Rattle.tor_words.specs.Given.{settings_given}
-use Rattle.torcheck_run.specs.Judging.{CanBeJudged, IsVerdict, Outcome, SettingsGive}
-use Rattle.torcheck_run.specs.Limits.{max_result}
+use Rattle.tor_words.specs.Given.{dumps_in, settings_given}
+use Rattle.run_base.specs.Programs.{Outcome}
+use Rattle.torcheck_run.specs.declared.judging.Judged.{Judged}
+use Rattle.torcheck_run.specs.Checking.{GivesOutcome}
+use Rattle.torcheck_run.specs.Judging.{CanBeJudged, IsVerdict}
+use Rattle.result_file.specs.Limits.{max_result}
 use Rattle.tor_output.specs.First.{Earlier, TakesUp}
-use Rattle.tor_output.specs.Output.{Faithful, IsOutput, migrated}
+use Rattle.tor_output.specs.Output.{Faithful, IsOutput, made_by, migrated}
 use Rattle.tor_output.specs.Written.{Written}
 use Rattle.tor_output.specs.Seen.{ComesTo, Reads}
 use Rattle.tor_output.specs.Summary.{summary}
@@ -37,9 +40,9 @@ pub record IsAgreedOn (dumps : List (List ℕ)) (files : Files) (text : List ℕ
 abbrev pub AgreementLaw : Type 0
 AgreementLaw =
     (words : List (List ℕ)) (settings : Settings) (files : Files) (known : Option (List Given)) (taken : Taken) (output : Written) →
-    settings_given words ≡ Some settings → settings.mode ≡ Labels → ComesTo settings files (Reads known taken) →
+    settings_given words ≡ Some settings → made_by settings.job ≡ Some made.Result → ComesTo settings files (Reads known taken) →
     IsOutput settings (Reads known taken) output → (names : List (List ℕ)) (later : Files) →
-    map later names ≡ map files settings.dumps → IsAgreedOn names later output.text
+    map later names ≡ map files (dumps_in settings) → IsAgreedOn names later output.text
 
 -- all results that are faithful to what is known and to what dumps gave have the same summary
 abbrev pub OneSummaryLaw : Type 0
@@ -54,4 +57,5 @@ MigrateLaw =
     (file : ResultFile) (before after : List ℕ) → IsTextOf file before → IsTextOf (migrated file) after →
     ((givens : List Given) → file.givens ≡ Some givens → after ≡ before) ×
     ((check : CheckSettings) (files later : Files) → files check.result ≡ Some before → later check.result ≡ Some after →
-    KeepDumps check.dumps files later → (outcome : Outcome) → SettingsGive check files outcome ↔ SettingsGive check later outcome)
+    KeepDumps check.dumps files later → (outcome : Outcome Judged) →
+    GivesOutcome check (Some files) outcome ↔ GivesOutcome check (Some later) outcome)

@@ -10,7 +10,7 @@ use Rattle.result_rules.specs.File.{its_walks}
 use Rattle.result_rules.specs.Against.{its_rows}
 use Rattle.rel_infer.specs.SelfAcceptance.{AreTableRows, IsVouchedFor}
 use Rattle.tor_words.specs.declared.settings.Settings.{Settings}
-use Rattle.tor_words.specs.Given.{settings_given}
+use Rattle.tor_words.specs.Given.{dumps_in, settings_given}
 use Rattle.tor_output.specs.Output.{Faithful, IsResumed}
 use Rattle.tor_output.specs.Resuming.{Hold, IsOfBoth, IsOfDumps}
 use Rattle.tor_output.specs.Seen.{ComesTo, Joins, joined, seen}
@@ -32,15 +32,15 @@ abbrev pub OfDumpsLaw : Type 0
 OfDumpsLaw =
     (words : List (List ℕ)) (settings : Settings) (files : Files) (known : Option (List Given)) (taken : Taken) (file : ResultFile) →
     settings_given words ≡ Some settings → seen settings files ≡ Ok taken → Faithful settings known taken file →
-    (dumps : List (List ℕ)) × Hold files settings.dumps dumps × IsOfDumps file dumps
+    (dumps : List (List ℕ)) × Hold files (dumps_in settings) dumps × IsOfDumps file dumps
 
 -- so it is with the result of a run over all these dumps, at another time and under other names, with the same sets, ratio and givens,
 -- whatever limit on paths it has
 abbrev pub IsAsOfOneRun : Settings → Files → (earlier file : ResultFile) → Type 0
 IsAsOfOneRun settings files earlier file =
-    (before dumps : List (List ℕ)) → IsOfDumps earlier before → Hold files settings.dumps dumps →
+    (before dumps : List (List ℕ)) → IsOfDumps earlier before → Hold files (dumps_in settings) dumps →
     (whole : Settings) (other_files : Files) (taken : Taken) (other : ResultFile) → whole.sets ≡ earlier.sets →
-    whole.ratio ≡ settings.ratio → Hold other_files whole.dumps (before ++ dumps) → seen whole other_files ≡ Ok taken →
+    whole.ratio ≡ settings.ratio → Hold other_files (dumps_in whole) (before ++ dumps) → seen whole other_files ≡ Ok taken →
     Faithful whole earlier.givens taken other → AreSameButEvidence file other
 
 -- resuming a result of some dumps with further ones gives what one run over all of them gives
@@ -55,10 +55,10 @@ ResumeLaw =
 abbrev pub InPartsLaw : Type 0
 InPartsLaw =
     (first second whole : Settings) (files later other_files : Files) (earlier between file other : ResultFile) (some rest all : Taken) →
-    joined earlier first.max_paths first.dumps files ≡ Ok some → IsResumed first earlier some between →
-    joined between second.max_paths second.dumps later ≡ Ok rest → IsResumed second between rest file →
-    whole.ratio ≡ second.ratio → map other_files whole.dumps ≡ map files first.dumps ++ map later second.dumps →
-    joined earlier whole.max_paths whole.dumps other_files ≡ Ok all → IsResumed whole earlier all other → AreSameButEvidence file other
+    joined earlier first.max_paths (dumps_in first) files ≡ Ok some → IsResumed first earlier some between →
+    joined between second.max_paths (dumps_in second) later ≡ Ok rest → IsResumed second between rest file →
+    whole.ratio ≡ second.ratio → map other_files (dumps_in whole) ≡ map files (dumps_in first) ++ map later (dumps_in second) →
+    joined earlier whole.max_paths (dumps_in whole) other_files ≡ Ok all → IsResumed whole earlier all other → AreSameButEvidence file other
 
 -- the text of such a result is accepted as every result is, so that it can be taken up again; and where the earlier result is of some
 -- dumps, a check says yes to it beside these and the new ones, whenever that is, and under whatever names
@@ -67,7 +67,7 @@ pub record IsAcceptedAnew (settings : Settings) (files : Files) (earlier : Resul
   pub rows : AreTableRows taken.table.rows
   pub vouched : IsVouchedFor settings.ratio taken.table.rows taken.counts file
   pub alone : (later : Files) → IsAgreedOn [] later text
-  pub beside : (before dumps : List (List ℕ)) → IsOfDumps earlier before → Hold files settings.dumps dumps →
+  pub beside : (before dumps : List (List ℕ)) → IsOfDumps earlier before → Hold files (dumps_in settings) dumps →
       (names : List (List ℕ)) (later : Files) → Hold later names (before ++ dumps) → IsAgreedOn names later text
 
 -- so it is with each result that resumes an earlier one

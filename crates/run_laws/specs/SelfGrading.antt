@@ -10,12 +10,14 @@ use Rattle.relationships.specs.Selection.{KeepsFrom}
 use Rattle.as_rel.specs.declared.line.RelLine.{RelLine}
 use Rattle.tor_words.specs.declared.settings.Settings.{Settings}
 use Rattle.tor_words.specs.declared.grade_settings.GradeSettings.{GradeSettings}
-use Rattle.tor_words.specs.declared.settings.Mode.TheVariants.{Serial}
-use Rattle.tor_words.specs.Given.{settings_given}
+use Rattle.tor_words.specs.declared.task.Made.TheVariants.{Serial}
+use Rattle.tor_words.specs.Given.{dumps_in, settings_given}
 use Rattle.tor_words.specs.GradeGiven.{grade_settings_given}
-use Rattle.torgrade_run.specs.GradeAnswer.{IsGraded}
+use Rattle.run_base.specs.Programs.{Makes}
 use Rattle.torgrade_run.specs.GradeText.{is_free, grades_of, grades_text, totals_of}
+use Rattle.torgrade_run.specs.Grading.{Basis, GivesGrading, IsGrading}
 use Rattle.tor_output.specs.Grading.{GradesExactly}
+use Rattle.tor_output.specs.Output.{made_by}
 use Rattle.tor_output.specs.Seen.{ComesTo, Reads}
 
 -- the text begins with the lines of these paths and their totals, and there exactly the kept ones are free, and none is unknown.
@@ -38,9 +40,11 @@ KeepDumps dumps files later = (name : List ℕ) → Contains dumps name → late
 abbrev pub SelfGradingLaw : Type 0
 SelfGradingLaw =
     (words : List (List ℕ)) (settings : Settings) (files : Files) (known : Option (List Given)) (taken : Taken) (rel : List ℕ) →
-    settings_given words ≡ Some settings → settings.mode ≡ Serial → settings.sets ≡ Cut → ComesTo settings files (Reads known taken) →
+    settings_given words ≡ Some settings → made_by settings.job ≡ Some Serial → settings.sets ≡ Cut →
+    ComesTo settings files (Reads known taken) →
     GradesExactly (unwrap_or known []) (row_paths taken.table.rows) rel →
     (grade_words : List (List ℕ)) (grading : GradeSettings) (later : Files) (text : List ℕ) →
     grade_settings_given grade_words ≡ Some grading → later grading.rel ≡ Some rel →
-    map later grading.dumps ≡ map files settings.dumps → IsGraded grade_words later text →
+    map later grading.dumps ≡ map files (dumps_in settings) → (basis : Basis) (note : List ℕ) →
+    GivesGrading grading (Some later) (Makes basis) → IsGrading grading basis text note →
     IsGradedAsKept (unwrap_or known []) taken.table.rows text

@@ -1,4 +1,6 @@
 //! Random keys of hash tables.
+//!
+//! Neither the kit's fast hasher nor our slots are of cryptographic strength.
 
 use std::hash::{BuildHasher, FoldHasher, Hasher};
 use std::random::RandomSource;

@@ -1,4 +1,6 @@
 //! Rows of items that lie one behind the other.
+//!
+//! Items are put one by one, since most rows have fewer than ten. A call that copies costs as much as twenty items.
 ghost use Rattle.std.specs.Prelude.{◌≡◌, ◌+◌, ◌-◌, ◌<◌, ◌≤◌, ◌↔◌, ◌++◌, ◌∷◌, [], length, take, drop, slice_get, OnOk, OnErr};
 ghost use Rattle.std.specs.Prelude.{IfOk, IfSome, sum_by, vec_len, vec_capacity};
 ghost use Rattle.tor_arena.specs.RowLists.{with_end, rows_between, ArePartedBy};

@@ -1,4 +1,6 @@
 //! A digraph with its arcs in rows.
+//!
+//! Arcs are put in from the last on, each at the end of what is free of its row. So the array of the ends becomes that of the starts.
 ghost use Rattle.std.specs.Prelude.{◌≡◌, [], ℕ, ◌+◌, ◌<◌, ◌≤◌, Some, slice_get, replicate, length, OnOk, IfOk};
 ghost use Rattle.tor_digraph.specs.Walks.{IsInside};
 ghost use Rattle.tor_digraph.specs.InRows.{IsRow, IsFilled, count_at, count_before};

@@ -1,4 +1,7 @@
 //! Ways that are known from searches that failed.
+//!
+//! A way of more than 24 nodes isn't remembered, since it would fill the walks of lost paths. Its inner parts are remembered too, which
+//! took a tenth off selection. What the nodes are is compared, so nothing rests on how a way was put together.
 ghost use Rattle.std.specs.Prelude.{◌≡◌, [], ℕ, ◌+◌, ◌≤◌, ◌↔◌, List, length, slice_get, Some, IsTrue, IfOk, IfSome, IfNone, OnOk};
 ghost use Rattle.tor_clauses.specs.Literals.{opposite_node};
 ghost use Rattle.tor_mend.specs.Rounds.{IsLed, LeadsOn, GoesAlongMiddle, IsEarly, AreKnown};

@@ -1,4 +1,7 @@
 //! How a literal is made to hold.
+//!
+//! Both arcs of a triple are followed by turns, and the nearer end is mended. If one is always taken, a chain of n orders that is asked
+//! to turn n times takes n times n. Up to 64 arcs the arc goes before its partner.
 ghost use Rattle.std.specs.Prelude.{◌≡◌, ℕ, ◌*◌, ◌<◌, [], List, length, OnOk, IfOk, IfSome, IfNone};
 ghost use Rattle.relationships.specs.declared.label.End.{End as Side};
 ghost use Rattle.tor_arena.specs.Limits.{max_numbers};

@@ -1,4 +1,7 @@
 //! Triples that were refused alone.
+//!
+//! A walk of more than 48 links is taken over only until a search is paid for. Else a dump of 78 KB makes a text of 232 MB. Without such
+//! walks each path with that triple costs a search; one count for all walks could be led astray.
 ghost use Rattle.std.specs.Prelude.{◌≡◌, ◌⊎◌, ◌+◌, ◌<◌, ◌↔◌, [], All, length, map, slice_get, Some, IsTrue, IfOk, IfSome};
 ghost use Rattle.std.specs.Prelude.{OnOk};
 ghost use Rattle.relationships.specs.declared.fate.Fate.{Fate as Becoming};

@@ -1,4 +1,7 @@
 //! Edges as numbers of one word, by which tables find them.
+//!
+//! The number is 2, plus the difference of the two ASes, plus 2^32 times the lower. So it fits 64 bits, both ends are read back from it,
+//! and no list of pairs is kept.
 
 ghost use Rattle.std.specs.Prelude.{◌≡◌, ◌≤◌};
 ghost use Rattle.tor_numbers.specs.EdgeNumbers.{number_of_edge, edge_numbered, IsEdgeNumber};

@@ -1,4 +1,7 @@
 //! Distinct numbers that are cut back to the first ones.
+//!
+//! Between the slot that a number's hash names and its own are only numbers that were added before it. Chains by the hash took twice the
+//! time.
 ghost use Rattle.std.specs.Prelude.{◌≡◌, ◌<◌, ◌≤◌, ◌*◌, ◌/◌, ◌↔◌};
 ghost use Rattle.std.specs.Prelude.{ℕ, List, [], length, take, Contains, IsTrue, IfOk, OnOk, OnErr};
 ghost use Rattle.tor_numbers.specs.Slots.{IsSearchEnd, IsHeld, IsHolding, IsInserted, Leaves, IsApart};

@@ -1,4 +1,7 @@
 //! Literals that fail, since they lead to their opposites.
+//!
+//! Where a wish fails, the opposite of the last literal on its way that fails too is settled. The first unique implication point of SAT
+//! solvers comes to much the same.
 ghost use Rattle.std.specs.Prelude.{◌≡◌, ◌≤◌, ◌<◌, ℕ, List, Contains, IfOk, IfSome, IfNone};
 ghost use Rattle.tor_arena.specs.Limits.{most_places};
 ghost use Rattle.tor_digraph.specs.Walks.{Reaches};

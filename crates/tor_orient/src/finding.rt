@@ -1,4 +1,6 @@
 //! A search for a node that does not go past what is settled.
+//!
+//! A search for an opposite stops where it comes to it, so the way back begins at the end of its trail.
 ghost use Rattle.std.specs.Prelude.{◌≡◌, ◌<◌, ℕ, List, length, Contains, OnOk, IfOk};
 ghost use Rattle.tor_digraph.specs.Spreading.{IsEntered};
 ghost use Rattle.tor_digraph.specs.Trails.{StandsAt, IsHeadFrom, IsTrail, StaysTrail};

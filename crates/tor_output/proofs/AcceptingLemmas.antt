@@ -35,8 +35,8 @@ givens_sound (Earlier name) files known is = absurd is
 
 pub table_law : BoundsLaw → TableLaw
 table_law bounds words settings files known taken given comes =
-    let seen = seen_law settings.source settings files taken comes.1 in
-    let all = (readable settings.source settings files).0 (taken, comes.1) in
+    let seen = seen_law settings files taken comes.1 in
+    let all = (readable settings files).0 (taken, comes.1) in
     let same = same_octets all.octets seen.octets (subst (λ ds. ds ≡ map Some seen.octets) all.there seen.there) in
     let fit : Fit settings.max_paths (cleaned_paths settings.sets (routes_in_files seen.octets)) =
     subst (λ (os : List (List ℕ)). Fit settings.max_paths (cleaned_paths settings.sets (routes_in_files os))) same all.fit in (

@@ -1,5 +1,5 @@
 -- The words and the files of a run give one outcome.
-use Rattle.std.proofs.Common.{◌≡◌, ◌⊎◌, inl, inr, ℕ, List, [], Option, Some, None, Ok, Err, refl, sym, ap, ap₂, subst, ◌∙◌}
+use Rattle.std.proofs.Common.{◌≡◌, ◌⊎◌, inl, inr, ℕ, List, Option, Some, None, Ok, Err, refl, sym, ap, ap₂, subst, ◌∙◌}
 use Rattle.tor_io.specs.Contents.{Files}
 use Rattle.relationships.specs.declared.given.Given.{Given}
 use Rattle.as_rel.specs.Givens.{givens_in}
@@ -8,20 +8,23 @@ use Rattle.dump_read.specs.declared.taking.Taken.{Taken}
 use Rattle.dump_read.specs.Seen.{DumpsEnd, Absent, Malformed, Limit}
 use Rattle.result_text.specs.declared.file.ResultFile.{ResultFile}
 use Rattle.result_text.specs.Grammar.{IsTextOf, IsBadLine}
-use Rattle.result_rules.specs.declared.verdict.Verdict.TheVariants.{Yes, No}
+use Rattle.result_rules.specs.declared.verdict.Verdict.TheVariants.{No}
 use Rattle.tor_words.specs.declared.settings.Settings.{Settings}
-use Rattle.tor_words.specs.Given.{settings_given}
+use Rattle.tor_words.specs.Given.{dumps_in, settings_given}
 use Rattle.run_base.specs.declared.status.Status.{Status}
 use Rattle.run_base.specs.declared.status.Status.TheVariants as status
 use Rattle.run_base.specs.WholeFile.{IsFile}
+use Rattle.run_base.specs.Programs as program
+use Rattle.run_base.specs.Programs.{OneOutcome}
 use Rattle.run_base.proofs.Values as values
-use Rattle.torcheck_run.specs.Limits.{max_result}
-use Rattle.torcheck_run.specs.Judging.{BreaksRule, IsAccepted}
-use Rattle.torcheck_run.proofs.Comings.{OneValue, one_bad_line, one_verdict, same_file}
+use Rattle.tor_output.specs.Inferring.{Basis, Seen, Joined, Held, GivesOutcome, inferring, outcome_of}
+use Rattle.tor_output.specs.Sampling.{known_beside, no_files, sample_of}
+use Rattle.result_file.specs.Limits.{max_result}
+use Rattle.result_file.specs.Ruled.{BreaksRule, IsAccepted}
+use Rattle.result_file.proofs.OneRuling.{OneValue, none_broken, one_bad_line, one_broken, same_file}
 use Rattle.tor_output.specs.First.{First, Nothing, Givens, Result, Earlier, FirstEnd, NoFile, TooLong, BadLine, Broken, AreGivens, HoldsResult, TakesUp, EndsAtFirst, SaysGivens, first_in}
 use Rattle.tor_output.specs.Limits.{max_given_octets}
-use Rattle.tor_output.specs.Sampling.{no_files}
-use Rattle.tor_output.specs.Seen.{Outcome, Reads, Joins, Holds, Stops, Ends, EndsBehindGivens, EndsOnEarlier, ComesTo, Gives, OneOutcomeLaw, seen_in, joined}
+use Rattle.tor_output.specs.Seen.{Outcome, Reads, Joins, Holds, Stops, Ends, EndsBehindGivens, EndsOnEarlier, ComesTo, OneOutcomeLaw, seen_in, joined}
 
 -- the status that an outcome asks for
 abbrev pub status_for : Outcome → Status
@@ -96,10 +99,7 @@ result_or_taken (Earlier name) files a b one other = absurd one
 -- octets that are accepted break no rule
 accepted_or_broken : {X : Type 0} → OneValue → (a b : List ℕ) (file : ResultFile) (line rule : ℕ) → a ≡ b → IsAccepted file a → BreaksRule b (No line rule) → X
 accepted_or_broken law a b file line rule same accepted broken =
-    no_is_yes (one_verdict law a [] no_files Yes (No line rule) (inr (file, accepted, refl)) (inl (subst (λ (bytes : List ℕ). BreaksRule bytes (No line rule)) (sym same) broken)))
-  where
-    no_is_yes : {Y : Type 0} → Yes ≡ No line rule → Y
-    no_is_yes e = absurd cc
+    absurd (none_broken law a file (No line rule) accepted (subst (λ (bytes : List ℕ). BreaksRule bytes (No line rule)) (sym same) broken))
 
 taken_or_end : {X : Type 0} → OneValue → (f : First) (files : Files) (file : ResultFile) (end : FirstEnd) → TakesUp f files file → EndsAtFirst f files end → X
 taken_or_end law Nothing files file end one other = absurd one
@@ -138,7 +138,7 @@ same_taken law (Earlier name) files a b one other =
 
 same_broken : OneValue → (a b : List ℕ) (line line' rule rule' : ℕ) → a ≡ b → BreaksRule a (No line rule) → BreaksRule b (No line' rule') → Broken line rule ≡ Broken line' rule'
 same_broken law a b line line' rule rule' same one other =
-    same_no (one_verdict law a [] no_files (No line rule) (No line' rule') (inl one) (inl (subst (λ (bytes : List ℕ). BreaksRule bytes (No line' rule')) (sym same) other)))
+    same_no (one_broken law a (No line rule) (No line' rule') one (subst (λ (bytes : List ℕ). BreaksRule bytes (No line' rule')) (sym same) other))
   where
     same_no : No line rule ≡ No line' rule' → Broken line rule ≡ Broken line' rule'
     same_no e = cc
@@ -195,19 +195,19 @@ same_end law (Earlier name) files (Broken line rule) (Broken line' rule') one ot
 
 module _ (law : OneValue) (settings : Settings) (files : Files) where
   -- of dumps behind what is known
-  known_or_ends : {X : Type 0} (a : Option (List Given)) (taken : Taken) (end : DumpsEnd) → AreGivens (first_in settings) files a → seen_in settings.source settings files ≡ Ok taken
+  known_or_ends : {X : Type 0} (a : Option (List Given)) (taken : Taken) (end : DumpsEnd) → AreGivens (first_in settings) files a → seen_in settings files ≡ Ok taken
       → EndsBehindGivens settings files end ⊎ EndsOnEarlier settings files end → X
-  known_or_ends a taken end are is (inl ends) = values.ok_not_err (seen_in settings.source settings files) taken end is ends.2
+  known_or_ends a taken end are is (inl ends) = values.ok_not_err (seen_in settings files) taken end is ends.2
   known_or_ends a taken end are is (inr ends) = given_or_taken (first_in settings) files a ends.0 are ends.1
 
   -- of dumps on top of a result
   joined_or_ends : {X : Type 0} (file : ResultFile) (taken : Taken) (end : DumpsEnd) → TakesUp (first_in settings) files file
-      → joined file settings.max_paths settings.dumps files ≡ Ok taken → EndsBehindGivens settings files end ⊎ EndsOnEarlier settings files end → X
+      → joined file settings.max_paths (dumps_in settings) files ≡ Ok taken → EndsBehindGivens settings files end ⊎ EndsOnEarlier settings files end → X
   joined_or_ends file taken end takes is (inl ends) = given_or_taken (first_in settings) files ends.0 file ends.1 takes
   joined_or_ends file taken end takes is (inr ends) =
       let same = same_taken law (first_in settings) files ends.0 file ends.1 takes in
-      values.ok_not_err (joined file settings.max_paths settings.dumps files) taken end is
-      (subst (λ (x : ResultFile). joined x settings.max_paths settings.dumps files ≡ Err end) same ends.2)
+      values.ok_not_err (joined file settings.max_paths (dumps_in settings) files) taken end is
+      (subst (λ (x : ResultFile). joined x settings.max_paths (dumps_in settings) files ≡ Err end) same ends.2)
 
   result_or_ends : {X : Type 0} (file : ResultFile) (end : DumpsEnd) → HoldsResult (first_in settings) files file
       → EndsBehindGivens settings files end ⊎ EndsOnEarlier settings files end → X
@@ -221,24 +221,24 @@ module _ (law : OneValue) (settings : Settings) (files : Files) where
 
   same_ends : (end end' : DumpsEnd) → EndsBehindGivens settings files end ⊎ EndsOnEarlier settings files end
       → EndsBehindGivens settings files end' ⊎ EndsOnEarlier settings files end' → end ≡ end'
-  same_ends end end' (inl one) (inl other) = values.err_is (seen_in settings.source settings files) end end' one.2 other.2
+  same_ends end end' (inl one) (inl other) = values.err_is (seen_in settings files) end end' one.2 other.2
   same_ends end end' (inl one) (inr other) = given_or_taken (first_in settings) files one.0 other.0 one.1 other.1
   same_ends end end' (inr one) (inl other) = given_or_taken (first_in settings) files other.0 one.0 other.1 one.1
   same_ends end end' (inr one) (inr other) =
       let same = same_taken law (first_in settings) files other.0 one.0 other.1 one.1 in
-      values.err_is (joined one.0 settings.max_paths settings.dumps files) end end' one.2
-      (subst (λ (x : ResultFile). joined x settings.max_paths settings.dumps files ≡ Err end') same other.2)
+      values.err_is (joined one.0 settings.max_paths (dumps_in settings) files) end end' one.2
+      (subst (λ (x : ResultFile). joined x settings.max_paths (dumps_in settings) files ≡ Err end') same other.2)
 
-  same_joined : (a b : ResultFile) (taken taken' : Taken) → TakesUp (first_in settings) files a → joined a settings.max_paths settings.dumps files ≡ Ok taken
-      → TakesUp (first_in settings) files b → joined b settings.max_paths settings.dumps files ≡ Ok taken' → Joins a taken ≡ Joins b taken'
+  same_joined : (a b : ResultFile) (taken taken' : Taken) → TakesUp (first_in settings) files a → joined a settings.max_paths (dumps_in settings) files ≡ Ok taken
+      → TakesUp (first_in settings) files b → joined b settings.max_paths (dumps_in settings) files ≡ Ok taken' → Joins a taken ≡ Joins b taken'
   same_joined a b taken taken' takes is takes' is' =
       let same = same_taken law (first_in settings) files a b takes takes' in
       ap₂ Joins same
-      (values.ok_is (joined b settings.max_paths settings.dumps files) taken taken' (subst (λ (x : ResultFile). joined x settings.max_paths settings.dumps files ≡ Ok taken) same is) is')
+      (values.ok_is (joined b settings.max_paths (dumps_in settings) files) taken taken' (subst (λ (x : ResultFile). joined x settings.max_paths (dumps_in settings) files ≡ Ok taken) same is) is')
 
   same_outcome : (x y : Outcome) → ComesTo settings files x → ComesTo settings files y → x ≡ y
   same_outcome (Reads a taken) (Reads b taken') one other =
-      ap₂ Reads (same_givens (first_in settings) files a b one.0 other.0) (values.ok_is (seen_in settings.source settings files) taken taken' one.1 other.1)
+      ap₂ Reads (same_givens (first_in settings) files a b one.0 other.0) (values.ok_is (seen_in settings files) taken taken' one.1 other.1)
   same_outcome (Reads a taken) (Joins file taken') one other = given_or_taken (first_in settings) files a file one.0 other.0
   same_outcome (Reads a taken) (Holds file) one other = given_or_result (first_in settings) files a file one.0 other
   same_outcome (Reads a taken) (Stops end) one other = given_or_end (first_in settings) files a end one.0 other
@@ -269,5 +269,56 @@ one_outcome law words files x y one other =
     let same : other.0 ≡ one.0 = values.some_is (settings_given words) other.0 one.0 other.1 one.1 in
     same_outcome law one.0 files x y one.2 (subst (λ s. ComesTo s files y) same other.2)
 
-pub one_status : OneValue → (words : List (List ℕ)) (files : Files) (x y : Outcome) → Gives words files x → Gives words files y → status_for x ≡ status_for y
-one_status law words files x y one other = ap status_for (one_outcome law words files x y one other)
+-- ---- of a run
+
+abbrev to_seen : program.Outcome Basis → Outcome
+to_seen (program.Makes basis) = outcome_of basis
+to_seen program.NoFile = Stops NoFile
+to_seen program.TooLong = Stops TooLong
+to_seen (program.BadLine line) = Stops (BadLine line)
+to_seen (program.Breaks line rule) = Stops (Broken line rule)
+to_seen (program.Lacks note) = Stops NoFile
+to_seen (program.Ends end) = Ends end
+
+abbrev from_seen : Outcome → program.Outcome Basis
+from_seen (Reads known taken) = program.Makes (Seen known taken)
+from_seen (Joins file taken) = program.Makes (Joined file taken)
+from_seen (Holds file) = program.Makes (Held file)
+from_seen (Stops NoFile) = program.NoFile
+from_seen (Stops TooLong) = program.TooLong
+from_seen (Stops (BadLine line)) = program.BadLine line
+from_seen (Stops (Broken line rule)) = program.Breaks line rule
+from_seen (Ends end) = program.Ends end
+
+there_and_back : (settings : Settings) (known : Option Files) (x : program.Outcome Basis) → GivesOutcome settings known x → from_seen (to_seen x) ≡ x
+there_and_back settings known (program.Makes (Seen given taken)) gives = refl
+there_and_back settings known (program.Makes (Joined file taken)) gives = refl
+there_and_back settings known (program.Makes (Held file)) gives = refl
+there_and_back settings known program.NoFile gives = refl
+there_and_back settings known program.TooLong gives = refl
+there_and_back settings known (program.BadLine line) gives = refl
+there_and_back settings known (program.Breaks line rule) gives = refl
+there_and_back settings known (program.Lacks note) gives = absurd gives
+there_and_back settings known (program.Ends end) gives = refl
+
+comes_seen : (settings : Settings) (files : Files) (x : program.Outcome Basis) → GivesOutcome settings (Some files) x → ComesTo settings files (to_seen x)
+comes_seen settings files (program.Makes basis) gives = gives
+comes_seen settings files program.NoFile gives = gives
+comes_seen settings files program.TooLong gives = gives
+comes_seen settings files (program.BadLine line) gives = gives
+comes_seen settings files (program.Breaks line rule) gives = gives.1
+comes_seen settings files (program.Lacks note) gives = absurd gives
+comes_seen settings files (program.Ends end) gives = gives
+
+one_of : OneValue → (settings : Settings) (files : Files) (x y : program.Outcome Basis) → GivesOutcome settings (Some files) x → GivesOutcome settings (Some files) y → x ≡ y
+one_of law settings files x y one other =
+    sym (there_and_back settings (Some files) x one)
+    ∙ ap from_seen (same_outcome law settings files (to_seen x) (to_seen y) (comes_seen settings files x one) (comes_seen settings files y other))
+    ∙ there_and_back settings (Some files) y other
+
+pub one_ending : OneValue → OneOutcome inferring
+one_ending law settings files x y one other = by (sample_of settings.job) one other
+  where
+    by : (o : Option ℕ) → GivesOutcome settings (known_beside o (Some files)) x → GivesOutcome settings (known_beside o (Some files)) y → x ≡ y
+    by (Some seed) one other = one_of law settings no_files x y one other
+    by None one other = one_of law settings files x y one other

@@ -10,7 +10,7 @@ use Rattle.result_text.specs.declared.line.Line.TheVariants as line
 use Rattle.result_text.specs.declared.line.Version.{Version}
 use Rattle.result_text.specs.Grammar.{IsTextOf}
 use Rattle.result_text.specs.Text.{version_of, its_givens, fields_of, line_text, text_of_lines, head_lines, body_lines}
-use Rattle.torcheck_run.specs.Limits.{max_result}
+use Rattle.result_file.specs.Limits.{max_result}
 
 given_has : (v : Version) (g : Given) → 8 ≤ length (line_text v (line.Given g))
 unfolding line_text

@@ -27,18 +27,18 @@ use Rattle.as_rel.specs.Keeping.{ExactlyKeptAreFree}
 use Rattle.as_rel.specs.Labelled.{ends_of, line_of_edge}
 use Rattle.as_rel.proofs.KeptLemmas.{kept_free_law, ends_law}
 use Rattle.tor_words.specs.declared.settings.Settings.{Settings}
-use Rattle.tor_words.specs.declared.settings.Mode.{Mode}
-use Rattle.tor_words.specs.declared.settings.Mode.TheVariants.{Serial, Migrate, Resume}
-use Rattle.tor_words.specs.declared.settings.Source.{Source}
-use Rattle.tor_words.specs.declared.settings.Source.TheVariants as source
-use Rattle.tor_words.specs.Given.{settings_given, IsWrittenOf}
+use Rattle.tor_words.specs.declared.job.Job.{Job}
+use Rattle.tor_words.specs.declared.job.Job.TheVariants.{Count, Infer, Sample, Migrate, Resume}
+use Rattle.tor_words.specs.declared.task.Made.{Made}
+use Rattle.tor_words.specs.declared.task.Made.TheVariants.{Serial}
+use Rattle.tor_words.specs.Given.{settings_given}
 use Rattle.tor_words.proofs.Bounds.{bounds}
 use Rattle.tor_io.specs.Contents.{Files}
 use Rattle.dump_read.specs.declared.taking.Taken.{Taken}
 use Rattle.tor_output.specs.Grading.{GradesExactly, GradingLaw, ResultEndsLaw, AsksForSerial, GainsGrading}
 use Rattle.std.specs.Io.KnownBytes.{append_known}
-use Rattle.tor_output.specs.First.{HoldsResult, TakesUp, first_by}
-use Rattle.tor_output.specs.Output.{IsOutput, IsOutputIn, GainsOutput}
+use Rattle.tor_output.specs.First.{HoldsResult, TakesUp, first_of}
+use Rattle.tor_output.specs.Output.{IsMade, IsOutput, IsOutputIn, GainsOutput, made_by}
 use Rattle.tor_output.specs.Seen.{Outcome, Reads, Joins, Holds, Stops, Ends, ComesTo}
 use Rattle.tor_output.specs.Written.{Written}
 use Rattle.tor_output.proofs.AcceptingLemmas.{table_law}
@@ -100,15 +100,23 @@ result_ends_law settings known taken file are faithful = result_ends known setti
 one_settings : (s t : Settings) → ◌≡◌ {A = Option Settings} (Some s) (Some t) → s ≡ t
 one_settings s t e = cc
 
-written_by : (mode : Mode) (settings : Settings) (known : Option (List Given)) (taken : Taken) (output : Written) → mode ≡ Serial → AreTableRows taken.table.rows →
-    IsOutputIn mode settings known taken output → GradesExactly (unwrap_or known []) (row_paths taken.table.rows) output.text
-written_by mode settings known taken output is are made =
-    let (file, faithful, serial, bare) = subst (λ (m : Mode). IsOutputIn m settings known taken output) is made in
+-- what a job makes of dumps alone is that
+pub is_made : (job : Job) (made : Made) (settings : Settings) (known : Option (List Given)) (taken : Taken) (output : Written) → made_by job ≡ Some made →
+    IsOutputIn job settings known taken output → IsMade made settings known taken output
+is_made (Count counted dumps) made settings known taken output is w = absurd cc
+is_made (Infer what given dumps) made settings known taken output is w = let same : what ≡ made = cc in subst (λ (m : Made). IsMade m settings known taken output) same w
+is_made (Sample seed) made settings known taken output is w = absurd cc
+is_made (Migrate name) made settings known taken output is w = absurd w
+is_made (Resume earlier dumps) made settings known taken output is w = absurd w
+
+written_by : (settings : Settings) (known : Option (List Given)) (taken : Taken) (output : Written) → AreTableRows taken.table.rows → IsMade Serial settings known taken output →
+    GradesExactly (unwrap_or known []) (row_paths taken.table.rows) output.text
+written_by settings known taken output are (file, faithful, serial, bare) =
     text_graded known settings.sets settings.ratio taken.table.rows taken.counts file are faithful output.text serial.1
 
 -- a result is taken up where it is resumed, and held where it is migrated, and lines of serial-1 are written of neither
 by_outcome : (words : List (List ℕ)) (files : Files) (old new : Option (List ℕ)) (settings : Settings) (x : Outcome) (output : Written) → settings_given words ≡ Some settings →
-    settings.mode ≡ Serial → new ≡ append_known old output.text → ComesTo settings files x → IsOutput settings x output → GainsGrading words files old new
+    made_by settings.job ≡ Some Serial → new ≡ append_known old output.text → ComesTo settings files x → IsOutput settings x output → GainsGrading words files old new
 by_outcome words files old new settings (Reads known taken) output given serial gained comes is = record {
   settings = settings;
   given = given;
@@ -117,26 +125,27 @@ by_outcome words files old new settings (Reads known taken) output given serial 
   seen = comes;
   text = output.text;
   gained = gained;
-  exact = written_by settings.mode settings known taken output serial (table_law bounds words settings files known taken given comes).0 is;
+  exact = written_by settings known taken output (table_law bounds words settings files known taken given comes).0
+      (is_made settings.job Serial settings known taken output serial is);
 }
-by_outcome words files old new settings (Joins earlier taken) output given serial gained comes is =
-    absurd (of_earlier settings.source settings.given settings.mode files earlier (bounds words settings given).written serial comes.0)
+by_outcome words files old new settings (Joins earlier taken) output given serial gained comes is = absurd (of_earlier settings.job serial comes.0)
   where
-    of_earlier : (from : Source) (name : Option (List ℕ)) (mode : Mode) (fs : Files) (f : ResultFile) → IsWrittenOf from mode → mode ≡ Serial → TakesUp (first_by from name) fs f → ⊥
-    of_earlier source.Files None mode fs f written is takes = takes
-    of_earlier source.Files (Some n) mode fs f written is takes = takes
-    of_earlier (source.Sample seed) n mode fs f written is takes = takes
-    of_earlier (source.Result r) n mode fs f written is takes = takes
-    of_earlier (source.Earlier r) n mode fs f written is takes = let e : Serial ≡ Resume = sym is ∙ written in absurd (cc e)
-by_outcome words files old new settings (Holds file) output given serial gained comes is =
-    absurd (of_result settings.source settings.given settings.mode files file (bounds words settings given).written serial comes)
+    of_earlier : (job : Job) → made_by job ≡ Some Serial → TakesUp (first_of job) files earlier → ⊥
+    of_earlier (Count counted dumps) made takes = takes
+    of_earlier (Infer what None dumps) made takes = takes
+    of_earlier (Infer what (Some name) dumps) made takes = takes
+    of_earlier (Sample seed) made takes = takes
+    of_earlier (Migrate name) made takes = takes
+    of_earlier (Resume name dumps) made takes = absurd cc
+by_outcome words files old new settings (Holds file) output given serial gained comes is = absurd (of_result settings.job serial comes)
   where
-    of_result : (from : Source) (name : Option (List ℕ)) (mode : Mode) (fs : Files) (f : ResultFile) → IsWrittenOf from mode → mode ≡ Serial → HoldsResult (first_by from name) fs f → ⊥
-    of_result source.Files None mode fs f written is holds = holds
-    of_result source.Files (Some n) mode fs f written is holds = holds
-    of_result (source.Sample seed) n mode fs f written is holds = holds
-    of_result (source.Result r) n mode fs f written is holds = let e : Serial ≡ Migrate = sym is ∙ written in absurd (cc e)
-    of_result (source.Earlier r) n mode fs f written is holds = holds
+    of_result : (job : Job) → made_by job ≡ Some Serial → HoldsResult (first_of job) files file → ⊥
+    of_result (Count counted dumps) made holds = holds
+    of_result (Infer what None dumps) made holds = holds
+    of_result (Infer what (Some name) dumps) made holds = holds
+    of_result (Sample seed) made holds = holds
+    of_result (Migrate name) made holds = absurd cc
+    of_result (Resume name dumps) made holds = holds
 by_outcome words files old new settings (Stops end) output given serial gained comes is = absurd is
 by_outcome words files old new settings (Ends end) output given serial gained comes is = absurd is
 
@@ -145,4 +154,4 @@ pub gains_grading : (words : List (List ℕ)) (files : Files) (old new : Option 
 gains_grading words files old new note asks gains =
     let asked = gains.asked in
     let same : asks.0 ≡ asked.settings = one_settings asks.0 asked.settings (sym asks.1 ∙ asked.given) in
-    by_outcome words files old new asked.settings asked.outcome gains.output asked.given (subst (λ (s : Settings). s.mode ≡ Serial) same asks.2) gains.gained asked.comes asked.written
+    by_outcome words files old new asked.settings asked.outcome gains.output asked.given (subst (λ (s : Settings). made_by s.job ≡ Some Serial) same asks.2) gains.gained asked.comes asked.written

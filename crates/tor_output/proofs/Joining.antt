@@ -25,7 +25,7 @@ use Rattle.result_text.specs.declared.file.ResultFile.{ResultFile}
 use Rattle.result_rules.specs.Against.{its_rows, row_of}
 use Rattle.run_base.specs.Reading.{nothing, seen_from, seen_of}
 use Rattle.tor_words.specs.declared.settings.Settings.{Settings}
-use Rattle.torcheck_run.specs.Judging.{seen_for}
+use Rattle.tor_words.specs.Given.{dumps_in}
 use Rattle.tor_output.specs.Output.{IsResumed}
 use Rattle.tor_output.specs.Resuming.{Hold, IsOfBoth, IsOfDumps}
 use Rattle.tor_output.specs.Seen.{joined, taken_up}
@@ -141,9 +141,9 @@ wider earlier limit most dumps files taken less joins_to =
 
 -- where the first dumps give what the result holds, all give what further ones give on top of it, under a limit that is no greater
 pub dumps_of_both : (earlier : ResultFile) (limit : ℕ) (names dumps : List (List ℕ)) (files : Files) (before taken : Taken) → limit ≤ max_paths
-    → seen_for earlier names files ≡ Ok before → before.table.rows ≡ its_rows earlier → before.counts ≡ earlier.asides
+    → seen_from earlier.sets 1 (nothing max_paths) names files ≡ Ok before → before.table.rows ≡ its_rows earlier → before.counts ≡ earlier.asides
     → joined earlier limit dumps files ≡ Ok taken
-    → (after : Taken) × (seen_for earlier (names ++ dumps) files ≡ Ok after) × (after.table.rows ≡ taken.table.rows) × (after.counts ≡ taken.counts)
+    → (after : Taken) × (seen_from earlier.sets 1 (nothing max_paths) (names ++ dumps) files ≡ Ok after) × (after.table.rows ≡ taken.table.rows) × (after.counts ≡ taken.counts)
 dumps_of_both earlier limit names dumps files before taken few gives rows counts joins_to =
     let wide = wider earlier limit max_paths dumps files taken few joins_to in
     let on = behind earlier.sets 1 (nothing max_paths) before names dumps files gives in
@@ -217,17 +217,17 @@ joined_by earlier limit names dumps files hold =
     (seen_by earlier.sets 1 (taken_up earlier limit) names dumps files Some hold)
 
 pub of_both : (settings : Settings) (files : Files) (earlier : ResultFile) (taken : Taken) (file : ResultFile) → settings.max_paths ≤ max_paths
-    → joined earlier settings.max_paths settings.dumps files ≡ Ok taken → IsResumed settings earlier taken file → IsOfBoth settings files earlier file
+    → joined earlier settings.max_paths (dumps_in settings) files ≡ Ok taken → IsResumed settings earlier taken file → IsOfBoth settings files earlier file
 of_both settings files earlier taken file few joins_to resumed = (dumps.0, dumps.1, both)
   where
-    dumps : (dumps : List (List ℕ)) × Hold files settings.dumps dumps
-    dumps = octets_of earlier.sets 1 (taken_up earlier settings.max_paths) taken settings.dumps files (joins earlier settings.max_paths settings.dumps files taken joins_to).1
+    dumps : (dumps : List (List ℕ)) × Hold files (dumps_in settings) dumps
+    dumps = octets_of earlier.sets 1 (taken_up earlier settings.max_paths) taken (dumps_in settings) files (joins earlier settings.max_paths (dumps_in settings) files taken joins_to).1
 
     both : (before : List (List ℕ)) → IsOfDumps earlier before → IsOfDumps file (before ++ dumps.0)
     both before (gave, gives, rows, counts) =
         let (after, sees, its_rows_are, its_counts_are) =
         dumps_of_both earlier settings.max_paths before dumps.0 Some gave taken few (by_octets earlier.sets 1 (nothing max_paths) before ∙ gives) rows counts
-        (sym (joined_by earlier settings.max_paths settings.dumps dumps.0 files dumps.1) ∙ joins_to) in
+        (sym (joined_by earlier settings.max_paths (dumps_in settings) dumps.0 files dumps.1) ∙ joins_to) in
         let is = resumed.0 in (
           after,
           subst (λ (s : Sets). seen_of s 1 (nothing max_paths) (before ++ dumps.0) ≡ Ok after) (sym is.its_sets)

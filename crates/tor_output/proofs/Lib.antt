@@ -1,13 +1,13 @@
 mod Summaries
 pub mod AcceptingLemmas
-pub mod Always
 pub mod Comings
+pub mod Conclusions
 pub mod FewGivens
+pub mod Gains
 pub mod GradingLemmas
 pub mod Joining
 pub mod Known
 pub mod Openings
-pub mod Reaching
 pub mod ReadableLemmas
 pub mod Resumings
 pub mod Sampled

@@ -1,5 +1,5 @@
 -- A run sees all its dumps exactly where they are readable.
-use Rattle.std.proofs.Common.{◌≡◌, ◌↔◌, ◌==◌, Bool, true, false, ℕ, ◌+◌, List, [], ◌∷◌, ◌++◌, map, length, Some, Result, Ok, Err, refl, sym, ap, subst, arith}
+use Rattle.std.proofs.Common.{◌≡◌, ◌↔◌, ◌==◌, Bool, true, false, ℕ, ◌+◌, List, [], ◌∷◌, ◌++◌, map, length, Option, None, Some, Result, Ok, Err, refl, sym, ap, subst, arith}
 use Rattle.std.specs.Prelude.{is_some}
 use Rattle.std.specs.List.{All}
 use Rattle.std.proofs.lemmas.List.Elements.{All-head, All-tail}
@@ -23,9 +23,11 @@ use Rattle.dump_read.specs.Taking.{with_one, has_too_many_numbers, take_path, ta
 use Rattle.dump_read.proofs.FitLemmas.{fitting}
 use Rattle.dump_read.proofs.TakingLemmas as taking
 use Rattle.tor_sample.specs.Records.{sample}
-use Rattle.tor_words.specs.declared.settings.Source.TheVariants as source
+use Rattle.tor_words.specs.Given.{dumps_in}
 use Rattle.run_base.specs.Reading.{nothing, seen_from}
-use Rattle.tor_output.specs.SeenLaw.{AreReadable, IsWhole, DumpsReadableLaw, ReadableLaw}
+use Rattle.tor_output.specs.Sampling.{sample_of}
+use Rattle.tor_output.specs.Seen.{seen_beside}
+use Rattle.tor_output.specs.SeenLaw.{AreReadable, IsWhole, DumpsReadableLaw, ReadableLaw, dumps_beside}
 use Rattle.tor_output.proofs.SeenLemmas.{same, dumps_law, sample_file, as_dump}
 
 -- ---- the counts of files play no part in what is taken in
@@ -189,9 +191,11 @@ dumps_readable sets limit names files = (λ seen. forth seen.0 seen.1, λ readab
         are_seen sets 1 names readable.octets files (nothing limit) all.0 readable.there readable.whole all.1
 
 pub readable : ReadableLaw
-readable source.Files settings files = dumps_readable settings.sets settings.max_paths settings.dumps files
-readable (source.Result name) settings files = dumps_readable settings.sets settings.max_paths settings.dumps files
-readable (source.Earlier name) settings files = dumps_readable settings.sets settings.max_paths settings.dumps files
-readable (source.Sample seed) settings files =
-    subst (λ (given : Result Taken DumpsEnd). ((taken : Taken) × (given ≡ Ok taken)) ↔ AreReadable settings.sets settings.max_paths (Some (sample seed) ∷ []))
-    (as_dump settings seed) (dumps_readable settings.sets settings.max_paths ([] ∷ []) (sample_file seed))
+readable settings files = by (sample_of settings.job)
+  where
+    by : (o : Option ℕ) → ((taken : Taken) × (seen_beside o settings (dumps_in settings) files ≡ Ok taken))
+        ↔ AreReadable settings.sets settings.max_paths (dumps_beside o (dumps_in settings) files)
+    by None = dumps_readable settings.sets settings.max_paths (dumps_in settings) files
+    by (Some seed) =
+        subst (λ (given : Result Taken DumpsEnd). ((taken : Taken) × (given ≡ Ok taken)) ↔ AreReadable settings.sets settings.max_paths (Some (sample seed) ∷ []))
+        (as_dump settings seed) (dumps_readable settings.sets settings.max_paths ([] ∷ []) (sample_file seed))

@@ -17,13 +17,11 @@ use Rattle.path_table.specs.Table.{with_path}
 use Rattle.dump_read.specs.declared.error.DumpError.{DumpError}
 use Rattle.dump_read.specs.declared.error.DumpError.TheVariants as error
 use Rattle.dump_read.specs.declared.error.LimitKind.{LimitKind}
-use Rattle.dump_read.specs.declared.error.LimitKind.TheVariants.{Paths, Bytes}
+use Rattle.dump_read.specs.declared.error.LimitKind.TheVariants.{Paths}
 use Rattle.dump_read.specs.declared.file_counts.FileCounts.{FileCounts}
 use Rattle.dump_read.specs.declared.taking.Taken.{Taken}
 use Rattle.dump_read.specs.Files.{with_file}
-use Rattle.dump_read.specs.Reach.{StopsBounded, LeavesRestOfDump}
 use Rattle.dump_read.specs.Reading.{FileEnd, Whole, Broken, TooLong, file_reading}
-use Rattle.dump_read.specs.Refusals.{IsOfDump}
 use Rattle.dump_read.specs.Routes.{Route}
 use Rattle.dump_read.specs.Seen.{DumpsEnd, Absent, Malformed, Limit, end_named, of_end, of_octets, of_taking}
 use Rattle.dump_read.specs.Taking.{take_cleaned, take_route, take_routes, Takes}
@@ -35,36 +33,32 @@ use Rattle.result_rules.specs.Against.{its_rows, row_of}
 use Rattle.result_rules.specs.File.{its_paths}
 use Rattle.path_table.specs.Rows.{row_paths}
 use Rattle.rel_infer.specs.SelfAcceptance.{AreTableRows}
-use Rattle.tor_words.specs.declared.settings.Mode.{Mode}
-use Rattle.tor_words.specs.declared.settings.Mode.TheVariants.{Migrate, Resume}
 use Rattle.rel_infer.specs.declared.earlier_table.Rest.{Rest}
 use Rattle.rel_infer.specs.Earlier.{BeginsWithPathsOf, IsRestOf}
 use Rattle.relationships.specs.declared.given.Given.{Given}
 use Rattle.rel_infer.specs.GivenResults.{IsResultWith}
 use Rattle.rel_infer.specs.Resumed.{Continues}
 use Rattle.tor_words.specs.declared.settings.Settings.{Settings}
-use Rattle.tor_words.specs.declared.settings.Source.{Source}
-use Rattle.tor_words.specs.declared.settings.Source.TheVariants as source
-use Rattle.tor_words.specs.Given.{settings_given, BoundsLaw, IsWrittenOf}
+use Rattle.tor_words.specs.Given.{dumps_in, settings_given, BoundsLaw}
 use Rattle.run_base.specs.declared.answer.Refusal.{Refusal}
 use Rattle.run_base.specs.declared.answer.Refusal.TheVariants as refusal
 use Rattle.run_base.specs.declared.reading.Stopped.{Stopped}
 use Rattle.run_base.specs.Answers.{IsReadFault}
-use Rattle.run_base.specs.Reading.{IsOfSomeDumps, seen_from, seen_of, name_of_dump}
+use Rattle.run_base.specs.Reading.{IsOfSomeDumps, seen_from, seen_of}
 use Rattle.run_base.proofs.Values as values
-use Rattle.tor_output.specs.First.{HoldsResult, first_by}
-use Rattle.tor_output.specs.Output.{GainsOutput, IsResumed, IsOutput, IsOutputIn, IsOutputOn, IsOutputOnEarlier, IsOutputOnSome}
-use Rattle.tor_output.specs.Reach.{IsPastLimit, StopsInReach}
-use Rattle.tor_output.specs.Refusals.{StopsOn, IsStopOn, past_limit}
-use Rattle.tor_output.specs.Resuming.{AsksToResume, GainsResumed}
-use Rattle.tor_output.specs.Sampling.{IsEarlier}
+use Rattle.tor_output.specs.First.{First, Nothing, Givens, Result as ResultAt, Earlier, AreGivens, AsksToResume, HoldsResult, IsTakenUp, first_in}
+use Rattle.tor_output.specs.Output.{GainsOutput, IsResumed, IsOutput, IsOutputOn, IsOutputOnEarlier, IsOutputOnSome}
+use Rattle.tor_output.specs.Reach.{StopsDumpsInReach, StopsInReach}
+use Rattle.tor_output.specs.Refusals.{StopsAt, IsStopAt, past_limit}
+use Rattle.tor_output.specs.Resuming.{GainsResumed}
+use Rattle.tor_output.specs.Sampling.{sample_of}
 use Rattle.tor_output.specs.Begun.{IsBegun}
 use Rattle.tor_output.specs.Seen.{Outcome, Reads, Joins, Holds, Stops, Ends, ComesTo, joined, taken_up}
 use Rattle.tor_output.specs.declared.output.Output.{Output}
 use Rattle.tor_output.specs.Summary.{summary}
 use Rattle.tor_output.specs.Written.{Written, written}
 use Rattle.tor_output.proofs.Joining.{of_both}
-use Rattle.tor_output.proofs.Sampled.{by_source}
+use Rattle.tor_output.proofs.Sampled.{by_sample}
 
 -- ---- the first rows stay those that were there
 
@@ -208,7 +202,7 @@ pub text_on : {E : Type 0} (settings : Settings) (rest : Rest) (taken : Taken) (
 text_on settings rest taken file (Ok o) resumed text note = λ old left begins. (file, resumed old left begins, text, note)
 text_on settings rest taken file (Err e) resumed text note = tt
 
-module _ (settings : Settings) (earlier : ResultFile) (rest : Rest) (old : Taken) (read : List (List ℕ)) (begun : IsBegun settings earlier rest old) (names : read ≡ settings.dumps) where
+module _ (settings : Settings) (earlier : ResultFile) (rest : Rest) (old : Taken) (read : List (List ℕ)) (begun : IsBegun settings earlier rest old) (names : read ≡ (dumps_in settings)) where
   abbrev few : length earlier.paths ≤ settings.max_paths
   few = begun.room
 
@@ -218,14 +212,14 @@ module _ (settings : Settings) (earlier : ResultFile) (rest : Rest) (old : Taken
   pub joined_made : (known : Option Files) (new : Taken) (output : Written) → IfSome known (λ files. seen_from rest.sets 1 old read files ≡ Ok new) → IsOutputOn settings earlier new output
       → IfSome known (λ files. IsOutputOnEarlier settings earlier files output)
   joined_made None new output is m = tt
-  joined_made (Some files) new output is m = (new, on_top earlier rest.sets settings.max_paths old read settings.dumps files (Ok new) begun.left.sets few same names is, m)
+  joined_made (Some files) new output is m = (new, on_top earlier rest.sets settings.max_paths old read (dumps_in settings) files (Ok new) begun.left.sets few same names is, m)
 
   pub joined_some : (new : Taken) (output : Written) → IsOfSomeDumps rest.sets (length read) old new → AreTableRows new.table.rows → IsOutputOn settings earlier new output
       → IsOutputOnSome settings earlier output
   joined_some new output some rows m = (
     new,
     few,
-    subst (λ (t : Taken). IsOfSomeDumps earlier.sets (length settings.dumps) t new) same
+    subst (λ (t : Taken). IsOfSomeDumps earlier.sets (length (dumps_in settings)) t new) same
         (subst (λ (ds : List (List ℕ)). IsOfSomeDumps earlier.sets (length ds) old new) names
         (subst (λ (x : Sets). IsOfSomeDumps x (length read) old new) begun.left.sets some)),
     rows,
@@ -235,27 +229,27 @@ module _ (settings : Settings) (earlier : ResultFile) (rest : Rest) (old : Taken
   -- ---- why there is nothing
 
   on_end : (known : Option Files) (end : DumpsEnd) → IfSome known (λ files. seen_from rest.sets 1 old read files ≡ Err end)
-      → IfSome known (λ files. joined earlier settings.max_paths settings.dumps files ≡ Err end)
+      → IfSome known (λ files. joined earlier settings.max_paths (dumps_in settings) files ≡ Err end)
   on_end None end is = tt
-  on_end (Some files) end is = on_top earlier rest.sets settings.max_paths old read settings.dumps files (Err end) begun.left.sets few same names is
+  on_end (Some files) end is = on_top earlier rest.sets settings.max_paths old read (dumps_in settings) files (Err end) begun.left.sets few same names is
 
   before_end : (known : Option Files) (d : ℕ) → IfSome known (λ files. IsOk (seen_from rest.sets 1 old (take (d - 1) read) files))
-      → IfSome known (λ files. IsOk (joined earlier settings.max_paths (take (d - 1) settings.dumps) files))
+      → IfSome known (λ files. IsOk (joined earlier settings.max_paths (take (d - 1) (dumps_in settings)) files))
   before_end None d is = tt
   before_end (Some files) d is =
       subst (λ (r : Result Taken DumpsEnd). IsOk r)
-      (sym (on_top earlier rest.sets settings.max_paths old (take (d - 1) read) (take (d - 1) settings.dumps) files (seen_from rest.sets 1 old (take (d - 1) read) files) begun.left.sets few same
+      (sym (on_top earlier rest.sets settings.max_paths old (take (d - 1) read) (take (d - 1) (dumps_in settings)) files (seen_from rest.sets 1 old (take (d - 1) read) files) begun.left.sets few same
       (ap (take (d - 1)) names) refl)) is
 
   pub joined_refused : (known : Option Files) (steady : Type 0) (stopped : Stopped)
       → IfSome (end_named stopped.dump stopped.error) (λ end. IfSome known (λ files. seen_from rest.sets 1 old read files ≡ Err end))
       → (1 ≤ stopped.dump) × (stopped.dump ≤ length read) → IfSome known (λ files. IsOk (seen_from rest.sets 1 old (take (stopped.dump - 1) read) files))
       → (steady → stopped.error ≡ error.ReadFault → IfSome known (λ files. seen_from rest.sets 1 old read files ≡ Err (Absent stopped.dump)))
-      → IsStopOn earlier settings known steady (refusal.Dumps stopped)
+      → IsStopAt (joined earlier settings.max_paths) (dumps_in settings) known steady (refusal.Dumps stopped)
   joined_refused known steady stopped ends named before absent = by stopped.error refl ends
     where
       by : (e : DumpError) → stopped.error ≡ e → IfSome (end_named stopped.dump e) (λ end. IfSome known (λ files. seen_from rest.sets 1 old read files ≡ Err end))
-          → StopsOn earlier settings known steady stopped.dump e
+          → StopsAt (joined earlier settings.max_paths) (dumps_in settings) known steady stopped.dump e
       by (error.Malformed place fault) is h = on_end known (Malformed place fault) h
       by (error.Limit kind) is h = on_end known (Limit kind stopped.dump) h
       by error.ReadFault is h = (
@@ -266,40 +260,33 @@ module _ (settings : Settings) (earlier : ResultFile) (rest : Rest) (old : Taken
       )
       by error.NoMemory is h = tt
 
-pub joined_reach : (settings : Settings) (read : List (List ℕ)) (known : Option Files) (left : Option (List ℕ)) (stopped : Stopped) → read ≡ settings.dumps
-    → (1 ≤ stopped.dump) × (stopped.dump ≤ length read) → IsOfDump stopped.dump stopped.error
-    → StopsBounded stopped.error (name_of_dump read stopped.dump) known left
-    → (stopped.error ≡ error.Limit Bytes → LeavesRestOfDump (name_of_dump read stopped.dump) known left)
-    → StopsInReach settings known left (refusal.Dumps stopped)
-joined_reach settings read known left stopped names named placed bounded shown =
-    let d = stopped.dump in
-    inr (
-      by_source settings.source tt (named.0, subst (λ (ds : List (List ℕ)). d ≤ length ds) names named.1),
-      by_source settings.source tt placed,
-      by_source settings.source tt (subst (λ (ds : List (List ℕ)). StopsBounded stopped.error (name_of_dump ds d) known left) names bounded),
-      λ e. by_source settings.source tt (subst (λ (ds : List (List ℕ)). LeavesRestOfDump (name_of_dump ds d) known left) names (shown e)),
-    )
+-- so far what it read
+pub joined_reach : (settings : Settings) (dumps : List (List ℕ)) (known : Option Files) (left : Option (List ℕ)) (r : Refusal) → dumps_in settings ≡ dumps
+    → StopsDumpsInReach dumps known left r → StopsInReach settings known left r
+joined_reach settings dumps known left (refusal.Words w) these h = tt
+joined_reach settings dumps known left (refusal.Dumps stopped) these h =
+    inr (by_sample (sample_of settings.job) tt (subst (λ (ds : List (List ℕ)). StopsDumpsInReach ds known left (refusal.Dumps stopped)) (sym these) h))
+joined_reach settings dumps known left refusal.NoMemory these h = tt
 
 -- it has more paths than may be, or memory ran out
 module _ (settings : Settings) (earlier : ResultFile) (r : Refusal) (why : ((r ≡ past_limit) × (settings.max_paths < length earlier.paths)) ⊎ (r ≡ refusal.NoMemory)) where
-  pub past_refused : (known : Option Files) (steady : Type 0) → IsStopOn earlier settings known steady r
+  pub past_refused : (known : Option Files) (steady : Type 0) → IsStopAt (joined earlier settings.max_paths) (dumps_in settings) known steady r
   past_refused known steady = by why
     where
-      many : (o : Option Files) → settings.max_paths < length earlier.paths → IfSome o (λ files. joined earlier settings.max_paths settings.dumps files ≡ Err (Limit Paths 0))
+      many : (o : Option Files) → settings.max_paths < length earlier.paths → IfSome o (λ files. joined earlier settings.max_paths (dumps_in settings) files ≡ Err (Limit Paths 0))
       many None lt = tt
-      many (Some files) lt = joined_many earlier settings.max_paths settings.dumps files lt
+      many (Some files) lt = joined_many earlier settings.max_paths (dumps_in settings) files lt
 
-      by : ((r ≡ past_limit) × (settings.max_paths < length earlier.paths)) ⊎ (r ≡ refusal.NoMemory) → IsStopOn earlier settings known steady r
-      by (inl past) = subst (λ (q : Refusal). IsStopOn earlier settings known steady q) (sym past.0) (many known past.1)
-      by (inr is) = subst (λ (q : Refusal). IsStopOn earlier settings known steady q) (sym is) tt
+      by : ((r ≡ past_limit) × (settings.max_paths < length earlier.paths)) ⊎ (r ≡ refusal.NoMemory) → IsStopAt (joined earlier settings.max_paths) (dumps_in settings) known steady r
+      by (inl past) = subst (λ (q : Refusal). IsStopAt (joined earlier settings.max_paths) (dumps_in settings) known steady q) (sym past.0) (many known past.1)
+      by (inr is) = subst (λ (q : Refusal). IsStopAt (joined earlier settings.max_paths) (dumps_in settings) known steady q) (sym is) tt
 
-  pub past_reach : (known : Option Files) (left : Option (List ℕ)) → IsEarlier settings.source → IsAtEnd left → StopsInReach settings known left r
-  past_reach known left from at_end = by why
+  pub past_reach : (known : Option Files) (left : Option (List ℕ)) → IsTakenUp (first_in settings) → IsAtEnd left → StopsInReach settings known left r
+  past_reach known left up at_end = by why
     where
       by : ((r ≡ past_limit) × (settings.max_paths < length earlier.paths)) ⊎ (r ≡ refusal.NoMemory) → StopsInReach settings known left r
       by (inl past) =
-          subst (λ (q : Refusal). StopsInReach settings known left q) (sym past.0)
-          (inl (subst (λ (s : Source). IsPastLimit s left 0 (error.Limit Paths)) (sym from.1) (refl, refl, at_end)))
+          subst (λ (q : Refusal). StopsInReach settings known left q) (sym past.0) (inl (up, refl, refl, at_end))
       by (inr is) = subst (λ (q : Refusal). StopsInReach settings known left q) (sym is) tt
 
   pub past_calm : IsReadFault r → ⊥
@@ -314,24 +301,28 @@ module _ (settings : Settings) (earlier : ResultFile) (r : Refusal) (why : ((r �
 
 -- ---- what is gained
 
--- a result that is held is written in the text of version 2
-not_held : {X : Type 0} (from : Source) (given : Option (List ℕ)) (mode : Mode) (files : Files) (file : ResultFile) → HoldsResult (first_by from given) files file → IsWrittenOf from mode
-    → mode ≡ Resume → X
-not_held source.Files None mode files file held written is = absurd held
-not_held source.Files (Some name) mode files file held written is = absurd held
-not_held (source.Sample seed) given mode files file held written is = absurd held
-not_held (source.Result name) given mode files file held written is = let both : Migrate ≡ Resume = sym written ∙ is in absurd (cc both)
-not_held (source.Earlier name) given mode files file held written is = absurd held
+-- a result that is taken up is no list of what is known, and is not held alone
+not_known : {X : Type 0} (f : First) (files : Files) (known : Option (List Given)) → IsTakenUp f → AreGivens f files known → X
+not_known Nothing files known up are = absurd up
+not_known (Givens name) files known up are = absurd up
+not_known (ResultAt name) files known up are = absurd up
+not_known (Earlier name) files known up are = absurd are
+
+not_held : {X : Type 0} (f : First) (files : Files) (file : ResultFile) → IsTakenUp f → HoldsResult f files file → X
+not_held Nothing files file up held = absurd up
+not_held (Givens name) files file up held = absurd up
+not_held (ResultAt name) files file up held = absurd up
+not_held (Earlier name) files file up held = absurd held
 
 pub gains_resumed : BoundsLaw → (words : List (List ℕ)) (files : Files) (old new : Option (List ℕ)) (note : List ℕ) → AsksToResume words → GainsOutput words files old new note
     → GainsResumed words files old new
 gains_resumed bounds words files old new note asks gains =
     by gains.asked.outcome gains.asked.comes gains.asked.written
-    (subst (λ (s : Settings). s.mode ≡ Resume) (values.some_is (settings_given words) asks.0 gains.asked.settings asks.1 gains.asked.given) asks.2)
+    (subst (λ (s : Settings). IsTakenUp (first_in s)) (values.some_is (settings_given words) asks.0 gains.asked.settings asks.1 gains.asked.given) asks.2)
   where
-    by : (x : Outcome) → ComesTo gains.asked.settings files x → IsOutput gains.asked.settings x gains.output → gains.asked.settings.mode ≡ Resume → GainsResumed words files old new
-    by (Reads known taken) comes is mode = absurd (subst (λ (m : Mode). IsOutputIn m gains.asked.settings known taken gains.output) mode is)
-    by (Joins earlier taken) comes is mode = record {
+    by : (x : Outcome) → ComesTo gains.asked.settings files x → IsOutput gains.asked.settings x gains.output → IsTakenUp (first_in gains.asked.settings) → GainsResumed words files old new
+    by (Reads known taken) comes is up = not_known (first_in gains.asked.settings) files known up comes.0
+    by (Joins earlier taken) comes is up = record {
       settings = gains.asked.settings;
       given = gains.asked.given;
       earlier = earlier;
@@ -344,7 +335,6 @@ gains_resumed bounds words files old new note asks gains =
       gained = gains.gained;
       of_both = of_both gains.asked.settings files earlier taken is.0 (bounds words gains.asked.settings gains.asked.given).most comes.1 is.1;
     }
-    by (Holds file) comes is mode =
-        let s = gains.asked.settings in not_held s.source s.given s.mode files file comes (bounds words s gains.asked.given).written mode
-    by (Stops end) comes is mode = absurd is
-    by (Ends end) comes is mode = absurd is
+    by (Holds file) comes is up = not_held (first_in gains.asked.settings) files file up comes
+    by (Stops end) comes is up = absurd is
+    by (Ends end) comes is up = absurd is

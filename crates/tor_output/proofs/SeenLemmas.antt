@@ -24,10 +24,15 @@ use Rattle.dump_read.proofs.SumLemmas.{together_law}
 use Rattle.dump_read.proofs.TakingLemmas.{dumps, path_counted, same_ok}
 use Rattle.tor_sample.specs.Records.{sample}
 use Rattle.tor_words.specs.declared.settings.Settings.{Settings}
-use Rattle.tor_words.specs.declared.settings.Source.TheVariants as source
+use Rattle.tor_words.specs.declared.job.Job.{Job}
+use Rattle.tor_words.specs.declared.job.Job.TheVariants.{Count, Infer, Sample, Migrate, Resume}
+use Rattle.tor_words.specs.declared.task.Made.{Made}
+use Rattle.tor_words.specs.Given.{dumps_in, dumps_of}
 use Rattle.run_base.specs.Reading.{nothing, seen_from}
-use Rattle.tor_output.specs.Seen.{seen_in_sample}
-use Rattle.tor_output.specs.SeenLaw.{IsWhole, IsSeenOf, DumpsLaw, SeenLaw}
+use Rattle.tor_output.specs.Output.{made_by}
+use Rattle.tor_output.specs.Sampling.{sample_of}
+use Rattle.tor_output.specs.Seen.{seen_beside, seen_in_sample, seen_of_dumps}
+use Rattle.tor_output.specs.SeenLaw.{IsWhole, IsSeenOf, DumpsLaw, SeenLaw, dumps_beside}
 
 pub same : (x y : Taken) → ◌≡◌ {A = Result Taken DumpsEnd} (Ok x) (Ok y) → x ≡ y
 same x y e = cc
@@ -152,8 +157,17 @@ as_dump settings seed = by (seen_in_sample settings seed)
     by (Err end) = refl
 
 pub seen_law : SeenLaw
-seen_law source.Files settings files taken e = dumps_law settings.sets settings.max_paths settings.dumps files taken e
-seen_law (source.Result name) settings files taken e = dumps_law settings.sets settings.max_paths settings.dumps files taken e
-seen_law (source.Earlier name) settings files taken e = dumps_law settings.sets settings.max_paths settings.dumps files taken e
-seen_law (source.Sample seed) settings files taken e =
-    dumps_law settings.sets settings.max_paths ([] ∷ []) (sample_file seed) taken (as_dump settings seed ∙ e)
+seen_law settings files taken e = by (sample_of settings.job) e
+  where
+    by : (o : Option ℕ) → seen_beside o settings (dumps_in settings) files ≡ Ok taken → IsSeenOf settings.sets (dumps_beside o (dumps_in settings) files) taken
+    by None is = dumps_law settings.sets settings.max_paths (dumps_in settings) files taken is
+    by (Some seed) is = dumps_law settings.sets settings.max_paths ([] ∷ []) (sample_file seed) taken (as_dump settings seed ∙ is)
+
+-- what is made of dumps alone is made of files
+pub made_of_files : (job : Job) (made : Made) (settings : Settings) (files : Files) (taken : Taken) → made_by job ≡ Some made
+    → seen_beside (sample_of job) settings (dumps_of job) files ≡ Ok taken → seen_of_dumps settings (dumps_of job) files ≡ Ok taken
+made_of_files (Count counted dumps) made settings files taken is sees = sees
+made_of_files (Infer what given dumps) made settings files taken is sees = sees
+made_of_files (Sample seed) made settings files taken is sees = absurd cc
+made_of_files (Migrate name) made settings files taken is sees = sees
+made_of_files (Resume earlier dumps) made settings files taken is sees = sees

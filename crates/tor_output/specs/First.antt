@@ -9,15 +9,15 @@ use Rattle.as_rel.specs.Serial.{rel_in}
 use Rattle.result_text.specs.declared.file.ResultFile.{ResultFile}
 use Rattle.result_text.specs.Grammar.{IsTextOf, IsBadLine}
 use Rattle.result_rules.specs.declared.verdict.Verdict.TheVariants.{No}
-use Rattle.tor_words.specs.declared.settings.Source.{Source}
-use Rattle.tor_words.specs.declared.settings.Source.TheVariants as source
+use Rattle.tor_words.specs.declared.job.Job.{Job}
+use Rattle.tor_words.specs.declared.job.Job.TheVariants as job
 use Rattle.tor_words.specs.declared.settings.Settings.{Settings}
 use Rattle.tor_words.specs.Given.{settings_given}
 use Rattle.run_base.specs.declared.notes.FirstFile.{FirstFile}
 use Rattle.run_base.specs.declared.notes.FirstFile.TheVariants as first
 use Rattle.run_base.specs.WholeFile.{IsFile, IsLongFile}
-use Rattle.torcheck_run.specs.Judging.{IsAccepted, BreaksRule}
-use Rattle.torcheck_run.specs.Limits.{max_result}
+use Rattle.result_file.specs.Ruled.{IsAccepted, BreaksRule}
+use Rattle.result_file.specs.Limits.{max_result}
 use Rattle.tor_output.specs.Limits.{max_given_octets}
 
 -- what is read first
@@ -30,17 +30,21 @@ pub data First : Type 0 where
   -- the file of this name, which holds the earlier result that is taken up
   Earlier : List ℕ → First
 
--- with `--given` that of known relationships, and for `--migrate` and with `--resume` the result; a sample stands in no file
-abbrev pub first_by : Source → Option (List ℕ) → First
-first_by source.Files None = Nothing
-first_by source.Files (Some name) = Givens name
-first_by (source.Sample seed) given = Nothing
-first_by (source.Result name) given = Result name
-first_by (source.Earlier name) given = Earlier name
+abbrev pub first_given : Option (List ℕ) → First
+first_given None = Nothing
+first_given (Some name) = Givens name
+
+-- by the job: with `--given` the file of known relationships, for `--migrate` the result, and with `--resume` the earlier one
+abbrev pub first_of : Job → First
+first_of (job.Count counted dumps) = Nothing
+first_of (job.Infer made given dumps) = first_given given
+first_of (job.Sample seed) = Nothing
+first_of (job.Migrate name) = Result name
+first_of (job.Resume earlier dumps) = Earlier earlier
 
 -- which file the settings name
 abbrev pub first_in : Settings → First
-first_in settings = first_by settings.source settings.given
+first_in settings = first_of settings.job
 
 -- what notes call it
 abbrev pub first_kind : First → Option FirstFile
@@ -60,9 +64,9 @@ IsTakenUp (Givens name) = ⊥
 IsTakenUp (Result name) = ⊥
 IsTakenUp (Earlier name) = ⊤
 
--- the words name an earlier result
-abbrev pub NamesEarlier : List (List ℕ) → Type 0
-NamesEarlier words = (settings : Settings) × (settings_given words ≡ Some settings) × IsTakenUp (first_in settings)
+-- the words ask to take one up
+abbrev pub AsksToResume : List (List ℕ) → Type 0
+AsksToResume words = (settings : Settings) × (settings_given words ≡ Some settings) × IsTakenUp (first_in settings)
 
 -- there is such a file, and of the most octets that it may have and of its name this holds
 abbrev pub OfFirst : First → (ℕ → List ℕ → Type 0) → Type 0

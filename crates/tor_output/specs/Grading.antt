@@ -13,9 +13,9 @@ use Rattle.as_rel.specs.Serial.{rel_in}
 use Rattle.as_rel.specs.Keeping.{ExactlyKeptAreFree}
 use Rattle.as_rel.specs.Labelled.{ends_of, line_of_edge}
 use Rattle.tor_words.specs.declared.settings.Settings.{Settings}
-use Rattle.tor_words.specs.declared.settings.Mode.TheVariants.{Serial}
+use Rattle.tor_words.specs.declared.task.Made.TheVariants.{Serial}
 use Rattle.tor_words.specs.Given.{settings_given}
-use Rattle.tor_output.specs.Output.{Faithful}
+use Rattle.tor_output.specs.Output.{Faithful, made_by}
 use Rattle.tor_output.specs.Seen.{ComesTo, Reads}
 
 -- the text is read as relationships under which exactly the paths that are kept under the givens are free, and none is unknown
@@ -39,7 +39,7 @@ ResultEndsLaw =
 
 -- the words ask for lines of serial-1
 abbrev pub AsksForSerial : List (List ℕ) → Type 0
-AsksForSerial words = (settings : Settings) × (settings_given words ≡ Some settings) × (settings.mode ≡ Serial)
+AsksForSerial words = (settings : Settings) × (settings_given words ≡ Some settings) × (made_by settings.job ≡ Some Serial)
 
 -- a sink gained a text that grades exactly, for the paths of the dumps that the words name
 pub record GainsGrading (words : List (List ℕ)) (files : Files) (old new : Option (List ℕ)) : Type 0 where

@@ -1,9 +1,10 @@
 pub mod Accepting
-pub mod Answer
+pub mod Before
 pub mod Begun
 pub mod Counts
 pub mod First
 pub mod Grading
+pub mod Inferring
 pub mod Limits
 pub mod Listing
 pub mod Opening

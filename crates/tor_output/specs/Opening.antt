@@ -1,30 +1,23 @@
 -- Which files a run of `tor` opens.
 use Rattle.std.specs.Prelude.{◌≡◌, [], ℕ, List, Option, None, Some}
 use Rattle.tor_words.specs.declared.settings.Settings.{Settings}
-use Rattle.tor_words.specs.declared.settings.Source.{Source}
-use Rattle.tor_words.specs.declared.settings.Source.TheVariants as source
-use Rattle.tor_words.specs.Given.{settings_given}
+use Rattle.tor_words.specs.declared.job.Job.{Job}
+use Rattle.tor_words.specs.declared.job.Job.TheVariants.{Count, Infer, Sample, Migrate, Resume}
 use Rattle.run_base.specs.Opening.{Named, FilesEnd, EndedAt, RefusalEnds}
 use Rattle.tor_output.specs.declared.unwritten.Unwritten.{Unwritten}
 use Rattle.tor_output.specs.declared.unwritten.Unwritten.TheVariants as unwritten
 
 -- with `--given` first that file, for `--migrate` the result alone, with `--resume` first the earlier result, and then the dumps; for a
 -- sample none
-abbrev pub named_by : Source → (given : Option (List ℕ)) → (dumps : List (List ℕ)) → Option Named
-named_by source.Files given dumps = Some (record { first = given; dumps = dumps })
-named_by (source.Sample seed) given dumps = None
-named_by (source.Result name) given dumps = Some (record { first = Some name; dumps = [] })
-named_by (source.Earlier name) given dumps = Some (record { first = Some name; dumps = dumps })
+abbrev pub named_by : Job → Option Named
+named_by (Count counted dumps) = Some (record { first = None; dumps = dumps })
+named_by (Infer made given dumps) = Some (record { first = given; dumps = dumps })
+named_by (Sample seed) = None
+named_by (Migrate name) = Some (record { first = Some name; dumps = [] })
+named_by (Resume earlier dumps) = Some (record { first = Some earlier; dumps = dumps })
 
 abbrev pub named_in : Settings → Option Named
-named_in settings = named_by settings.source settings.given settings.dumps
-
-abbrev pub named_for : Option Settings → Option Named
-named_for None = None
-named_for (Some settings) = named_in settings
-
-abbrev pub files_named : List (List ℕ) → Option Named
-files_named words = named_for (settings_given words)
+named_in settings = named_by settings.job
 
 -- where there is no text to write, by the reason
 abbrev pub UnwrittenEnds : Unwritten → FilesEnd → Type 0

@@ -1,7 +1,7 @@
--- What a run that is done has written, by its mode.
-use Rattle.std.specs.Prelude.{◌≡◌, ◌≤◌, ◌++◌, ◌∷◌, [], ℕ, List, length, map, Ok, Option, Some, unwrap_or}
+-- What a run that is done has written, by its job.
+use Rattle.std.specs.Prelude.{◌≡◌, ◌≤◌, ◌++◌, ◌∷◌, [], ℕ, List, length, map, Ok, Option, None, Some, unwrap_or}
 use Rattle.std.specs.Io.KnownBytes.{append_known}
-use Rattle.tor_io.specs.Contents.{Files, GainsPrefix}
+use Rattle.tor_io.specs.Contents.{Files}
 use Rattle.path_table.specs.Rows.{row_paths}
 use Rattle.relationships.specs.declared.given.Given.{Given}
 use Rattle.dump_read.specs.declared.taking.Taken.{Taken}
@@ -17,14 +17,18 @@ use Rattle.rel_infer.specs.GivenResults.{IsResultWith}
 use Rattle.rel_infer.specs.Resumed.{Continues}
 use Rattle.rel_infer.specs.SelfAcceptance.{AreTableRows}
 use Rattle.run_base.specs.Reading.{IsOfSomeDumps}
-use Rattle.tor_words.specs.declared.settings.Mode.{Mode}
-use Rattle.tor_words.specs.declared.settings.Mode.TheVariants.{Labels, Listing, Survey, Ties, Serial, Summary, Migrate, Resume}
+use Rattle.tor_words.specs.declared.job.Job.{Job}
+use Rattle.tor_words.specs.declared.job.Job.TheVariants.{Count, Infer, Sample, Migrate, Resume}
 use Rattle.tor_words.specs.declared.settings.Settings.{Settings}
-use Rattle.tor_words.specs.Given.{settings_given}
+use Rattle.tor_words.specs.declared.task.Counted.{Counted}
+use Rattle.tor_words.specs.declared.task.Counted.TheVariants.{Listing, Survey}
+use Rattle.tor_words.specs.declared.task.Made.{Made}
+use Rattle.tor_words.specs.declared.task.Made.TheVariants as made
+use Rattle.tor_words.specs.Given.{dumps_in, settings_given}
 use Rattle.tor_survey.specs.SurveyText.{survey_text}
 use Rattle.tor_survey.specs.Surveys.{survey_of}
 use Rattle.tor_output.specs.Listing.{listing}
-use Rattle.tor_output.specs.Seen.{Outcome, Reads, Joins, Holds, Stops, Ends, ComesTo, ComesOfSome, joined, taken_up}
+use Rattle.tor_output.specs.Seen.{Outcome, Reads, Joins, Holds, Stops, Ends, ComesTo, joined, taken_up}
 use Rattle.tor_output.specs.Summary.{summary}
 use Rattle.tor_output.specs.Written.{Written}
 
@@ -47,23 +51,38 @@ IsResumed settings earlier taken file =
 abbrev pub IsSerialOf : ResultFile → List ℕ → Type 0
 IsSerialOf file text = (text ≡ rel_text (map line_of_edge file.edges)) × (rel_in text ≡ Ok (map line_of_edge file.edges))
 
--- in this mode, of what is known and what the dumps gave: in Labels the text of the result, and its summary as a note; in Listing a line
--- for each path; in Survey the lines of the survey; in Ties the lines of the ties of their paths; in Serial the lines of what the labels of
--- the result say; in Summary the summary of the result; in Migrate nothing, since no dump is read, and in Resume nothing, since what is
--- read first is no list of what is known
-abbrev pub IsOutputIn : Mode → Settings → Option (List Given) → Taken → Written → Type 0
-IsOutputIn Labels settings known taken output =
+-- what is counted of what the dumps gave: a line for each path, or the lines of the survey
+abbrev pub IsCounted : Counted → Taken → Written → Type 0
+IsCounted Listing taken output = (output.text ≡ listing taken.table.rows) × (output.note ≡ [])
+IsCounted Survey taken output = (output.text ≡ survey_text (survey_of taken)) × (output.note ≡ [])
+
+-- what is made of what is known and what the dumps gave: the text of the result, and its summary as a note; the lines of the ties of their
+-- paths; or the lines of what the labels of the result say
+abbrev pub IsMade : Made → Settings → Option (List Given) → Taken → Written → Type 0
+IsMade made.Result settings known taken output =
     (file : ResultFile) × Faithful settings known taken file × IsTextOf file output.text × (output.note ≡ summary file ++ 10 ∷ [])
-IsOutputIn Listing settings known taken output = (output.text ≡ listing taken.table.rows) × (output.note ≡ [])
-IsOutputIn Survey settings known taken output = (output.text ≡ survey_text (survey_of taken)) × (output.note ≡ [])
-IsOutputIn Ties settings known taken output = (lines : List TieLine) ×
+IsMade made.Ties settings known taken output = (lines : List TieLine) ×
     AreTieLinesOf (unwrap_or known []) (row_paths taken.table.rows) lines × (output.text ≡ ties_text lines) × (output.note ≡ [])
-IsOutputIn Serial settings known taken output =
+IsMade made.Serial settings known taken output =
     (file : ResultFile) × Faithful settings known taken file × IsSerialOf file output.text × (output.note ≡ [])
-IsOutputIn Summary settings known taken output =
+
+-- the summary of the result
+abbrev pub IsSummedUp : Settings → Option (List Given) → Taken → Written → Type 0
+IsSummedUp settings known taken output =
     (file : ResultFile) × Faithful settings known taken file × (output.text ≡ summary file ++ 10 ∷ []) × (output.note ≡ [])
-IsOutputIn Migrate settings known taken output = ⊥
-IsOutputIn Resume settings known taken output = ⊥
+
+-- by the job; a migration reads no dump, and what is resumed is no list of what is known
+abbrev pub IsOutputIn : Job → Settings → Option (List Given) → Taken → Written → Type 0
+IsOutputIn (Count counted dumps) settings known taken output = IsCounted counted taken output
+IsOutputIn (Infer made given dumps) settings known taken output = IsMade made settings known taken output
+IsOutputIn (Sample seed) settings known taken output = IsSummedUp settings known taken output
+IsOutputIn (Migrate name) settings known taken output = ⊥
+IsOutputIn (Resume earlier dumps) settings known taken output = ⊥
+
+-- what a job makes of dumps alone, if it makes something
+abbrev pub made_by : Job → Option Made
+made_by (Infer made given dumps) = Some made
+made_by _ = None
 
 -- the same result with a list of givens, which is empty where it had none
 abbrev pub migrated : ResultFile → ResultFile
@@ -81,18 +100,18 @@ IsOutputOn settings earlier taken output = (file : ResultFile) × IsResumed sett
 -- the dumps of these files give that on top of it
 abbrev pub IsOutputOnEarlier : Settings → (earlier : ResultFile) → Files → Written → Type 0
 IsOutputOnEarlier settings earlier files output = (taken : Taken) ×
-    (joined earlier settings.max_paths settings.dumps files ≡ Ok taken) × IsOutputOn settings earlier taken output
+    (joined earlier settings.max_paths (dumps_in settings) files ≡ Ok taken) × IsOutputOn settings earlier taken output
 
 -- dumps of some octets give that, a file for each name of a dump
 abbrev pub IsOutputOnSome : Settings → (earlier : ResultFile) → Written → Type 0
 IsOutputOnSome settings earlier output = (taken : Taken) × (length earlier.paths ≤ settings.max_paths) ×
-    IsOfSomeDumps earlier.sets (length settings.dumps) (taken_up earlier settings.max_paths) taken × AreTableRows taken.table.rows ×
+    IsOfSomeDumps earlier.sets (length (dumps_in settings)) (taken_up earlier settings.max_paths) taken × AreTableRows taken.table.rows ×
     IsOutputOn settings earlier taken output
 
--- what is written of this outcome: of dumps by the mode, of dumps on top of a result the result of both, and of a result its text of
+-- what is written of this outcome: of dumps by the job, of dumps on top of a result the result of both, and of a result its text of
 -- version 2
 abbrev pub IsOutput : Settings → Outcome → Written → Type 0
-IsOutput settings (Reads known taken) output = IsOutputIn settings.mode settings known taken output
+IsOutput settings (Reads known taken) output = IsOutputIn settings.job settings known taken output
 IsOutput settings (Joins earlier taken) output = IsOutputOn settings earlier taken output
 IsOutput settings (Holds file) output = IsMigrated file output
 IsOutput settings (Stops end) output = ⊥
@@ -116,33 +135,3 @@ pub record GainsOutput (words : List (List ℕ)) (files : Files) (old new : Opti
   pub asked : IsAsked words files output
   pub gained : new ≡ append_known old output.text
   pub noted : note ≡ output.note
-
--- a sink gained a prefix of the text that is asked for
-abbrev pub GainsOutputPrefix : List (List ℕ) → Files → Option (List ℕ) → Option (List ℕ) → Type 0
-GainsOutputPrefix words files old new = (output : Written) × IsAsked words files output × GainsPrefix old new output.text
-
--- ---- what is written whatever the files hold, also where nothing is known of them
-
--- the words ask for this of what some octets give: in Labels it is the text of a result that is faithful to some paths with their times,
--- as a table has them, and to some counts and givens, with its summary; in Resume of one that continues some result that meets all rules
-pub record IsOfSome (words : List (List ℕ)) (output : Written) : Type 0 where
-  pub settings : Settings
-  pub given : settings_given words ≡ Some settings
-  pub outcome : Outcome
-  pub comes : ComesOfSome settings outcome
-  pub written : IsOutput settings outcome output
-
--- a sink gained a text that the words ask for of some files, whose note is this
-pub record GainsSome (words : List (List ℕ)) (old new : Option (List ℕ)) (note : List ℕ) : Type 0 where
-  pub output : Written
-  pub of_some : IsOfSome words output
-  pub gained : new ≡ append_known old output.text
-  pub noted : note ≡ output.note
-
--- a sink gained a prefix of such a text
-abbrev pub GainsSomePrefix : List (List ℕ) → Option (List ℕ) → Option (List ℕ) → Type 0
-GainsSomePrefix words old new = (output : Written) × IsOfSome words output × GainsPrefix old new output.text
-
--- the note goes with such a text
-abbrev pub IsNoteOfOutput : List (List ℕ) → List ℕ → Type 0
-IsNoteOfOutput words note = (output : Written) × IsOfSome words output × (note ≡ output.note)

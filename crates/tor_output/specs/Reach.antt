@@ -4,30 +4,21 @@ use Rattle.std.specs.Io.KnownBytes.{IsAtEnd}
 use Rattle.tor_io.specs.Contents.{Files}
 use Rattle.dump_read.specs.declared.error.DumpError.{DumpError}
 use Rattle.dump_read.specs.declared.error.DumpError.TheVariants as error
-use Rattle.dump_read.specs.declared.error.Fault.{Fault}
-use Rattle.dump_read.specs.declared.error.LimitKind.{LimitKind}
 use Rattle.dump_read.specs.declared.error.LimitKind.TheVariants.{Bytes, Paths}
-use Rattle.dump_read.specs.declared.error.Place.{Place}
 use Rattle.dump_read.specs.Reach.{StopsBounded, LeavesRestOfDump}
 use Rattle.dump_read.specs.Refusals.{IsOfDump}
-use Rattle.tor_words.specs.declared.settings.Source.{Source}
-use Rattle.tor_words.specs.declared.settings.Source.TheVariants as source
 use Rattle.tor_words.specs.declared.settings.Settings.{Settings}
-use Rattle.tor_words.specs.Given.{settings_given}
+use Rattle.tor_words.specs.Given.{dumps_in}
 use Rattle.run_base.specs.declared.answer.Refusal.{Refusal}
 use Rattle.run_base.specs.declared.answer.Refusal.TheVariants as refusal
-use Rattle.run_base.specs.declared.status.Status.{Status}
-use Rattle.run_base.specs.declared.status.Status.TheVariants as status
-use Rattle.run_base.specs.declared.notes.FirstFile.{FirstFile}
 use Rattle.run_base.specs.declared.whole_file.Unread.{Unread}
 use Rattle.run_base.specs.declared.whole_file.Unread.TheVariants as unread
 use Rattle.run_base.specs.Reading.{name_of_dump}
-use Rattle.run_base.specs.Notes.{malformed_note, limit_note, bad_line_note, too_long_note, read_fault_note}
 use Rattle.run_base.specs.WholeFile.{LeavesRest, LeavesOnly}
 use Rattle.tor_output.specs.declared.unwritten.Unwritten.{Unwritten}
 use Rattle.tor_output.specs.declared.unwritten.Unwritten.TheVariants as unwritten
-use Rattle.tor_output.specs.First.{First, OfFirst, first_in}
-use Rattle.tor_output.specs.Sampling.{BySource}
+use Rattle.tor_output.specs.First.{First, OfFirst, IsTakenUp, first_in}
+use Rattle.tor_output.specs.Sampling.{BySample, sample_of}
 
 -- ---- the file that is read first
 
@@ -54,38 +45,32 @@ IsFirstInReach f known left (unwritten.Refused why) = ⊤
 
 -- ---- dumps
 
--- of a run over files this number is that of a dump that is named, and in a fault the place names it
-abbrev pub IsDumpNumber : Settings → ℕ → Type 0
-IsDumpNumber settings dump = BySource settings.source ⊤ ((1 ≤ dump) × (dump ≤ length settings.dumps))
+-- the number is that of one of these dumps, of which no octet behind the octet 2 ^ 40 + 12 was read, or it was not opened; and if reading
+-- stopped at the limit on bytes, the header that shows it is the last thing that was read of it
+abbrev pub IsDumpInReach : List (List ℕ) → Option Files → Option (List ℕ) → ℕ → DumpError → Type 0
+IsDumpInReach dumps known left dump e =
+    (1 ≤ dump) × (dump ≤ length dumps) × StopsBounded e (name_of_dump dumps dump) known left ×
+    (e ≡ error.Limit Bytes → LeavesRestOfDump (name_of_dump dumps dump) known left)
 
-abbrev pub IsPlacedIn : Settings → ℕ → DumpError → Type 0
-IsPlacedIn settings dump e = BySource settings.source ⊤ (IsOfDump dump e)
+-- so it is of a run over files; of a sample nothing is said, since it is no file
+abbrev pub IsInReach : Settings → Option Files → Option (List ℕ) → ℕ → DumpError → Type 0
+IsInReach settings known left dump e = BySample (sample_of settings.job) ⊤ (IsDumpInReach (dumps_in settings) known left dump e)
 
--- of the dump of this number, at which reading stopped for this, no octet behind the octet 2 ^ 40 + 12 was read, or it was not opened;
--- of a sample nothing is said, since it is no file
-abbrev pub IsBounded : Settings → Option Files → Option (List ℕ) → ℕ → DumpError → Type 0
-IsBounded settings known left dump e = BySource settings.source ⊤ (StopsBounded e (name_of_dump settings.dumps dump) known left)
-
--- if it stopped at the limit on bytes, the header that shows it is the last thing that was read of the dump
-abbrev pub IsShownByHeader : Settings → Option Files → Option (List ℕ) → ℕ → DumpError → Type 0
-IsShownByHeader settings known left dump e =
-    e ≡ error.Limit Bytes → BySource settings.source ⊤ (LeavesRestOfDump (name_of_dump settings.dumps dump) known left)
-
--- all this, where there is no text since the reading of the dumps of these settings stopped
-abbrev pub IsStopInReach : Settings → Option Files → Option (List ℕ) → ℕ → DumpError → Type 0
-IsStopInReach settings known left dump e =
-    IsDumpNumber settings dump × IsPlacedIn settings dump e × IsBounded settings known left dump e ×
-    IsShownByHeader settings known left dump e
+-- the same of dumps, where there is no text since the reading of them stopped; in a fault the place names the dump
+abbrev pub StopsDumpsInReach : List (List ℕ) → Option Files → Option (List ℕ) → Refusal → Type 0
+StopsDumpsInReach dumps known left (refusal.Words w) = ⊤
+StopsDumpsInReach dumps known left (refusal.Dumps stopped) =
+    IsOfDump stopped.dump stopped.error × IsDumpInReach dumps known left stopped.dump stopped.error
+StopsDumpsInReach dumps known left refusal.NoMemory = ⊤
 
 -- a result that is taken up has more paths than may be: nothing is left unread
-abbrev pub IsPastLimit : Source → Option (List ℕ) → ℕ → DumpError → Type 0
-IsPastLimit (source.Earlier name) left dump e = (dump ≡ 0) × (e ≡ error.Limit Paths) × IsAtEnd left
-IsPastLimit _ left dump e = ⊥
+abbrev pub IsPastLimit : First → Option (List ℕ) → ℕ → DumpError → Type 0
+IsPastLimit f left dump e = IsTakenUp f × (dump ≡ 0) × (e ≡ error.Limit Paths) × IsAtEnd left
 
 abbrev pub StopsInReach : Settings → Option Files → Option (List ℕ) → Refusal → Type 0
 StopsInReach settings known left (refusal.Words w) = ⊤
-StopsInReach settings known left (refusal.Dumps stopped) =
-    IsPastLimit settings.source left stopped.dump stopped.error ⊎ IsStopInReach settings known left stopped.dump stopped.error
+StopsInReach settings known left (refusal.Dumps stopped) = IsPastLimit (first_in settings) left stopped.dump stopped.error
+    ⊎ BySample (sample_of settings.job) ⊤ (StopsDumpsInReach (dumps_in settings) known left (refusal.Dumps stopped))
 StopsInReach settings known left refusal.NoMemory = ⊤
 
 -- ---- either
@@ -96,25 +81,3 @@ IsUnwrittenInReach settings known left (unwritten.First file why) = IsUnreadInRe
 IsUnwrittenInReach settings known left (unwritten.BadLine file line) = IsAtEnd left
 IsUnwrittenInReach settings known left (unwritten.Broken line rule) = IsAtEnd left
 IsUnwrittenInReach settings known left (unwritten.Refused why) = StopsInReach settings known left why
-
--- the same by the words
-abbrev pub StaysUnwrittenInReach : List (List ℕ) → Option Files → Option (List ℕ) → Unwritten → Type 0
-StaysUnwrittenInReach words known left u =
-    (settings : Settings) → settings_given words ≡ Some settings → IsUnwrittenInReach settings known left u
-
--- a run that ends at the file that is read first or at a dump, the one that its note names, has read so far in it
-abbrev pub EndsInReach : List (List ℕ) → Option Files → Option (List ℕ) → Status → List ℕ → Type 0
-EndsInReach words known left status.Malformed text = (settings : Settings) → settings_given words ≡ Some settings →
-    ((file : FirstFile) × (line : ℕ) × (text ≡ bad_line_note file line) × IsAtEnd left) ⊎
-    ((place : Place) × ((fault : Fault) × (text ≡ malformed_note place fault) × IsDumpNumber settings place.dump ×
-    IsBounded settings known left place.dump (error.Malformed place fault)))
-EndsInReach words known left status.Limit text = (settings : Settings) → settings_given words ≡ Some settings →
-    ((file : FirstFile) × (text ≡ too_long_note file) × LeavesRestOfFirst (first_in settings) known left) ⊎
-    (((text ≡ limit_note Paths 0) × IsPastLimit settings.source left 0 (error.Limit Paths)) ⊎
-    ((dump : ℕ) × ((kind : LimitKind) × (text ≡ limit_note kind dump) × IsDumpNumber settings dump ×
-    IsBounded settings known left dump (error.Limit kind) × IsShownByHeader settings known left dump (error.Limit kind))))
-EndsInReach words known left status.ReadFault text = (settings : Settings) → settings_given words ≡ Some settings →
-    ((text ≡ read_fault_note 0) × LeavesOnlyFirst (first_in settings) known left) ⊎
-    ((dump : ℕ) × (text ≡ read_fault_note dump) × IsDumpNumber settings dump × IsBounded settings known left dump error.ReadFault)
-EndsInReach words known left status.No text = IsAtEnd left
-EndsInReach words known left _ text = ⊤

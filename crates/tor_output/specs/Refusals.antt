@@ -1,16 +1,15 @@
 -- Why there is no text to write, and the answer then.
-use Rattle.std.specs.Prelude.{◌≡◌, ◌≤◌, ◌-◌, ◌⊎◌, ℕ, List, length, take, Option, None, Some, Err, IfSome, IsOk}
+use Rattle.std.specs.Prelude.{◌≡◌, ◌≤◌, ◌⊎◌, ℕ, List, length, Option, None, Some, Result, Err, IfSome}
 use Rattle.tor_io.specs.Contents.{Files}
 use Rattle.relationships.specs.declared.given.Given.{Given}
 use Rattle.dump_read.specs.declared.error.DumpError.{DumpError}
 use Rattle.dump_read.specs.declared.error.DumpError.TheVariants as error
 use Rattle.dump_read.specs.declared.error.LimitKind.TheVariants.{Paths}
+use Rattle.dump_read.specs.declared.taking.Taken.{Taken}
 use Rattle.dump_read.specs.Seen.{DumpsEnd, Absent, Malformed, Limit}
 use Rattle.result_text.specs.declared.file.ResultFile.{ResultFile}
 use Rattle.tor_words.specs.declared.settings.Settings.{Settings}
-use Rattle.tor_words.specs.declared.refused.WordsRefused.TheVariants as refused
-use Rattle.tor_words.specs.Refused.{HasUsageLine}
-use Rattle.tor_words.specs.Given.{settings_given}
+use Rattle.tor_words.specs.Given.{dumps_in}
 use Rattle.run_base.specs.declared.status.Status.TheVariants as status
 use Rattle.run_base.specs.declared.answer.Answer.{Answer}
 use Rattle.run_base.specs.declared.answer.Refusal.{Refusal}
@@ -20,57 +19,38 @@ use Rattle.run_base.specs.declared.whole_file.Unread.{Unread}
 use Rattle.run_base.specs.declared.whole_file.Unread.TheVariants as unread
 use Rattle.run_base.specs.Answers.{Answers, AnswersUnread, AnswersWith, IsReadFault, IsOfWords}
 use Rattle.run_base.specs.Notes.{bad_line_note}
-use Rattle.torcheck_run.specs.CheckAnswer.{no_text}
+use Rattle.result_file.specs.VerdictText.{no_text}
 use Rattle.tor_output.specs.declared.unwritten.Unwritten.{Unwritten}
 use Rattle.tor_output.specs.declared.unwritten.Unwritten.TheVariants as unwritten
-use Rattle.tor_output.specs.Answer.{ReadBefore, AreGivensGood}
+use Rattle.tor_output.specs.Before.{HasNoEndBefore, AreGivensGood}
 use Rattle.tor_output.specs.First.{First, FirstEnd, NoFile, TooLong, BadLine, Broken}
 use Rattle.tor_output.specs.First.{AreGivens, TakesUp, IsTakenUp, EndsAtFirst, first_in, first_kind}
-use Rattle.tor_output.specs.Seen.{seen_in, joined}
+use Rattle.tor_output.specs.Sampling.{sample_of}
+use Rattle.tor_output.specs.Seen.{seen_beside, joined}
 
 -- ---- dumps
 
--- what the dumps of the settings give, where the files are known, is this end
-abbrev pub DumpsEndIn : Settings → Option Files → DumpsEnd → Type 0
-DumpsEndIn settings known end = IfSome known (λ files. seen_in settings.source settings files ≡ Err end)
+-- what these dumps give, seen so, is this end, where the files are known
+abbrev pub EndsSeen : (List (List ℕ) → Files → Result Taken DumpsEnd) → List (List ℕ) → Option Files → DumpsEnd → Type 0
+EndsSeen see dumps known end = IfSome known (λ files. see dumps files ≡ Err end)
 
--- the reading of the dumps of these settings stopped for this
-abbrev pub StopsIn : Settings → Option Files → Type 0 → ℕ → DumpError → Type 0
-StopsIn settings known steady dump (error.Malformed place fault) = DumpsEndIn settings known (Malformed place fault)
-StopsIn settings known steady dump (error.Limit kind) = DumpsEndIn settings known (Limit kind dump)
-StopsIn settings known steady dump error.ReadFault =
-    (1 ≤ dump) × (dump ≤ length settings.dumps) × ReadBefore settings known dump × (steady → DumpsEndIn settings known (Absent dump))
-StopsIn settings known steady dump error.NoMemory = Unit {0}
+-- the reading of these dumps stopped for this, where they are seen so
+abbrev pub StopsAt : (List (List ℕ) → Files → Result Taken DumpsEnd) → List (List ℕ) → Option Files → Type 0 → ℕ → DumpError → Type 0
+StopsAt see dumps known steady dump (error.Malformed place fault) = EndsSeen see dumps known (Malformed place fault)
+StopsAt see dumps known steady dump (error.Limit kind) = EndsSeen see dumps known (Limit kind dump)
+StopsAt see dumps known steady dump error.ReadFault = (1 ≤ dump) × (dump ≤ length dumps)
+    × IfSome known (λ files. HasNoEndBefore see dumps files dump) × (steady → EndsSeen see dumps known (Absent dump))
+StopsAt see dumps known steady dump error.NoMemory = Unit {0}
+
+-- the same of why there is nothing to write
+abbrev pub IsStopAt : (List (List ℕ) → Files → Result Taken DumpsEnd) → List (List ℕ) → Option Files → Type 0 → Refusal → Type 0
+IsStopAt see dumps known steady (refusal.Words w) = ⊥
+IsStopAt see dumps known steady (refusal.Dumps stopped) = StopsAt see dumps known steady stopped.dump stopped.error
+IsStopAt see dumps known steady refusal.NoMemory = Unit {0}
 
 -- a result has more paths than may be, so that no dump is read on top of it
 abbrev pub past_limit : Refusal
 past_limit = refusal.Dumps (record { dump = 0; error = error.Limit Paths })
-
--- what the dumps of the settings give on top of this result, where the files are known, is this end
-abbrev pub JoinedEndIn : ResultFile → Settings → Option Files → DumpsEnd → Type 0
-JoinedEndIn file settings known end = IfSome known (λ files. joined file settings.max_paths settings.dumps files ≡ Err end)
-
--- the reading of these dumps on top of it stopped for this
-abbrev pub StopsOn : ResultFile → Settings → Option Files → Type 0 → ℕ → DumpError → Type 0
-StopsOn file settings known steady dump (error.Malformed place fault) = JoinedEndIn file settings known (Malformed place fault)
-StopsOn file settings known steady dump (error.Limit kind) = JoinedEndIn file settings known (Limit kind dump)
-StopsOn file settings known steady dump error.ReadFault =
-    (1 ≤ dump) × (dump ≤ length settings.dumps)
-    × IfSome known (λ files. IsOk (joined file settings.max_paths (take (dump - 1) settings.dumps) files))
-    × (steady → JoinedEndIn file settings known (Absent dump))
-StopsOn file settings known steady dump error.NoMemory = Unit {0}
-
--- the same of why there is nothing to write
-abbrev pub IsStopIn : Settings → Option Files → Type 0 → Refusal → Type 0
-IsStopIn settings known steady (refusal.Words w) = ⊥
-IsStopIn settings known steady (refusal.Dumps stopped) = StopsIn settings known steady stopped.dump stopped.error
-IsStopIn settings known steady refusal.NoMemory = Unit {0}
-
--- the same on top of a result
-abbrev pub IsStopOn : ResultFile → Settings → Option Files → Type 0 → Refusal → Type 0
-IsStopOn file settings known steady (refusal.Words w) = ⊥
-IsStopOn file settings known steady (refusal.Dumps stopped) = StopsOn file settings known steady stopped.dump stopped.error
-IsStopOn file settings known steady refusal.NoMemory = Unit {0}
 
 -- ---- the file that is read first
 
@@ -105,11 +85,12 @@ IsUnwrittenAtFirst f known steady (unwritten.Refused refusal.NoMemory) = Unit {0
 
 -- ---- no text
 
--- the reading of the dumps stopped for this, where what is read first is good
+-- the reading of the dumps, or of the sample, stopped for this, where what is read first is good; or that of the dumps on top of a result
 abbrev pub IsStopBehindFirst : Settings → Option Files → Type 0 → ℕ → DumpError → Type 0
 IsStopBehindFirst settings known steady dump e =
-    (AreGivensGood settings known × StopsIn settings known steady dump e) ⊎
-    ((file : ResultFile) × TakesUpIn (first_in settings) known file × StopsOn file settings known steady dump e)
+    (AreGivensGood settings known × StopsAt (seen_beside (sample_of settings.job) settings) (dumps_in settings) known steady dump e) ⊎
+    ((file : ResultFile) × TakesUpIn (first_in settings) known file ×
+    StopsAt (joined file settings.max_paths) (dumps_in settings) known steady dump e)
 
 -- with these settings there is none for this
 abbrev pub IsUnwrittenIn : Settings → Option Files → Type 0 → Unwritten → Type 0
@@ -121,22 +102,6 @@ IsUnwrittenIn settings known steady (unwritten.Refused (refusal.Words w)) = ⊥
 IsUnwrittenIn settings known steady (unwritten.Refused (refusal.Dumps stopped)) =
     IsStopBehindFirst settings known steady stopped.dump stopped.error
 IsUnwrittenIn settings known steady (unwritten.Refused refusal.NoMemory) = Unit {0}
-
--- the words give settings, and with these there is none for this
-abbrev pub IsUnwrittenGiven : List (List ℕ) → Option Files → Type 0 → Unwritten → Type 0
-IsUnwrittenGiven words known steady u =
-    (settings : Settings) × (settings_given words ≡ Some settings) × IsUnwrittenIn settings known steady u
-
--- there is none for this, by what the words and the files give
-abbrev pub IsUnwritten : List (List ℕ) → Option Files → Type 0 → Unwritten → Type 0
-IsUnwritten words known steady (unwritten.Refused (refusal.Words (refused.Usage text))) = (settings_given words ≡ None) × HasUsageLine text
-IsUnwritten words known steady (unwritten.Refused (refusal.Words refused.NoMemory)) = Unit {0}
-IsUnwritten words known steady (unwritten.Refused (refusal.Dumps stopped)) =
-    IsUnwrittenGiven words known steady (unwritten.Refused (refusal.Dumps stopped))
-IsUnwritten words known steady (unwritten.Refused refusal.NoMemory) = Unit {0}
-IsUnwritten words known steady (unwritten.BadLine file line) = IsUnwrittenGiven words known steady (unwritten.BadLine file line)
-IsUnwritten words known steady (unwritten.Broken line rule) = IsUnwrittenGiven words known steady (unwritten.Broken line rule)
-IsUnwritten words known steady (unwritten.First file why) = IsUnwrittenGiven words known steady (unwritten.First file why)
 
 -- a read failed
 abbrev pub IsFailedRead : Unwritten → Type 0

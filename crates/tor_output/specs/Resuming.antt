@@ -8,9 +8,8 @@ use Rattle.dump_read.specs.declared.taking.Taken.{Taken}
 use Rattle.result_text.specs.declared.file.ResultFile.{ResultFile}
 use Rattle.result_text.specs.Grammar.{IsTextOf}
 use Rattle.result_rules.specs.Against.{its_rows}
-use Rattle.tor_words.specs.declared.settings.Mode.TheVariants.{Resume}
 use Rattle.tor_words.specs.declared.settings.Settings.{Settings}
-use Rattle.tor_words.specs.Given.{settings_given}
+use Rattle.tor_words.specs.Given.{dumps_in, settings_given}
 use Rattle.run_base.specs.Reading.{nothing, seen_of}
 use Rattle.tor_output.specs.First.{TakesUp, first_in}
 use Rattle.tor_output.specs.Output.{IsResumed}
@@ -26,12 +25,8 @@ Hold files names dumps = map files names ≡ map Some dumps
 
 -- where the earlier result is of some dumps, wherever they are, this one is of these and then of the dumps that the words name
 abbrev pub IsOfBoth : Settings → Files → (earlier file : ResultFile) → Type 0
-IsOfBoth settings files earlier file = (dumps : List (List ℕ)) × Hold files settings.dumps dumps ×
+IsOfBoth settings files earlier file = (dumps : List (List ℕ)) × Hold files (dumps_in settings) dumps ×
     ((before : List (List ℕ)) → IsOfDumps earlier before → IsOfDumps file (before ++ dumps))
-
--- the words ask to take up a result
-abbrev pub AsksToResume : List (List ℕ) → Type 0
-AsksToResume words = (settings : Settings) × (settings_given words ≡ Some settings) × (settings.mode ≡ Resume)
 
 -- the words name a result that is taken up, and a sink gained the text of one that resumes it: where the earlier one is of some dumps,
 -- wherever they are, it is of these and then of those that the words name

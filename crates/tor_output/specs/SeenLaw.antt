@@ -1,5 +1,5 @@
 -- What a run has seen of its dumps, and when it sees all of them: the laws of the whole run.
-use Rattle.std.specs.Prelude.{◌≡◌, ◌↔◌, ℕ, List, [], ◌∷◌, map, Option, Some, Ok}
+use Rattle.std.specs.Prelude.{◌≡◌, ◌↔◌, ℕ, List, [], ◌∷◌, map, Option, None, Some, Ok}
 use Rattle.std.specs.List.{All}
 use Rattle.path_clean.specs.declared.cleaned.Sets.{Sets}
 use Rattle.tor_io.specs.Contents.{Files}
@@ -9,18 +9,19 @@ use Rattle.dump_read.specs.Files.{file_counts, together}
 use Rattle.dump_read.specs.Laws.{IsTakenOf, routes_in_files, cleaned_paths, Fit}
 use Rattle.dump_read.specs.Reading.{Whole, file_reading}
 use Rattle.tor_sample.specs.Records.{sample}
-use Rattle.tor_words.specs.declared.settings.Source.{Source}
-use Rattle.tor_words.specs.declared.settings.Source.TheVariants as source
 use Rattle.tor_words.specs.declared.settings.Settings.{Settings}
+use Rattle.tor_words.specs.Given.{dumps_in}
 use Rattle.run_base.specs.Reading.{nothing, seen_from}
+use Rattle.tor_output.specs.Sampling.{sample_of}
 use Rattle.tor_output.specs.Seen.{seen_in}
 
 -- the dumps of a run, in their order, each with its octets if it is there: those that the words name, or the sample that they ask for
-abbrev pub dumps_for : Source → Settings → Files → List (Option (List ℕ))
-dumps_for source.Files settings files = map files settings.dumps
-dumps_for (source.Sample seed) settings files = Some (sample seed) ∷ []
-dumps_for (source.Result name) settings files = map files settings.dumps
-dumps_for (source.Earlier name) settings files = map files settings.dumps
+abbrev pub dumps_beside : Option ℕ → List (List ℕ) → Files → List (Option (List ℕ))
+dumps_beside (Some seed) dumps files = Some (sample seed) ∷ []
+dumps_beside None dumps files = map files dumps
+
+abbrev pub dumps_for : Settings → Files → List (Option (List ℕ))
+dumps_for settings files = dumps_beside (sample_of settings.job) (dumps_in settings) files
 
 -- a dump of these octets is read to its end
 abbrev pub IsWhole : List ℕ → Type 0
@@ -46,8 +47,8 @@ DumpsLaw =
 -- what a run has seen is of all its dumps
 abbrev pub SeenLaw : Type 0
 SeenLaw =
-    (from : Source) (settings : Settings) (files : Files) (taken : Taken)
-    → seen_in from settings files ≡ Ok taken → IsSeenOf settings.sets (dumps_for from settings files) taken
+    (settings : Settings) (files : Files) (taken : Taken)
+    → seen_in settings files ≡ Ok taken → IsSeenOf settings.sets (dumps_for settings files) taken
 
 -- ---- when all is read
 
@@ -68,6 +69,6 @@ DumpsReadableLaw =
 -- a run sees all its dumps exactly where they are readable
 abbrev pub ReadableLaw : Type 0
 ReadableLaw =
-    (from : Source) (settings : Settings) (files : Files)
-    → ((taken : Taken) × (seen_in from settings files ≡ Ok taken)) ↔
-    AreReadable settings.sets settings.max_paths (dumps_for from settings files)
+    (settings : Settings) (files : Files)
+    → ((taken : Taken) × (seen_in settings files ≡ Ok taken)) ↔
+    AreReadable settings.sets settings.max_paths (dumps_for settings files)

@@ -1,11 +1,12 @@
 //! The file that a run reads to its end before any dump: known relationships, or a result, which may be taken up.
-ghost use Rattle.std.specs.Prelude.{◌≡◌, ◌≤◌, ◌++◌, ◌∷◌, [], Some, IfOk, IfErr, IfSome, OnOk, IsErrAnd, length};
+ghost use Rattle.std.specs.Prelude.{◌≡◌, ◌≤◌, ◌++◌, ◌∷◌, [], Some, IfOk, IfErr, IfSome, IsSome, OnOk, IsErrAnd, length, unwrap_or};
 ghost use Rattle.std.specs.Io.KnownBytes.{IsAtEnd};
 ghost use Rattle.relationships.specs.Givens.{NameTwo, NameOnce};
 ghost use Rattle.as_rel.specs.Serial.{IsReadingError};
 ghost use Rattle.run_base.specs.Frames.{ReadsShelf};
+ghost use Rattle.run_base.specs.Opening.{first_named};
 ghost use Rattle.tor_output.specs.First.{Givens, Result as ResultAt, Earlier, AreSomeGivens, SaysGivens, HoldsResult, IsSomeResult};
-ghost use Rattle.tor_output.specs.First.{TakesUpSome};
+ghost use Rattle.tor_output.specs.First.{AreSound, TakesUpSome, first_given};
 ghost use Rattle.rel_infer.specs.GivenInference.{max_givens};
 ghost use Rattle.tor_output.specs.Opening.{IsAtFirst};
 ghost use Rattle.tor_output.specs.Reach.{IsFirstInReach};
@@ -14,13 +15,13 @@ ghost use Rattle.tor_output.specs.Refusals.{AreGivensIn, TakesUpIn, IsUnwrittenA
 use crate::unwritten::Unwritten;
 use as_rel::{MAX_REL, RelError, parse_given};
 use relationships::Given;
+use result_file::{MAX_RESULT, NoResult, Ruling, read_result, ruling_of_file};
 use result_text::ResultFile;
 use run_base::{FirstFile, Refusal, read_whole};
 use std::alloc::Global;
 use tor_arena::{Keys, List};
 use tor_io::Shelf;
 use tor_words::Name;
-use torcheck_run::{MAX_RESULT, NoResult, Ruling, read_result, ruling_of_file};
 
 // The relationships that the octets say. The octets are let go.
 fn parse_givens(alloc: Global, keys: Keys, bytes: List<u8>) -> Result<List<Given>, RelError>
@@ -35,8 +36,8 @@ fn parse_givens(alloc: Global, keys: Keys, bytes: List<u8>) -> Result<List<Given
     givens
 }
 
-/// What the file of this name says is known.
-pub(crate) fn givens_in<H: Shelf>(
+// What the file of this name says is known.
+fn givens_in<H: Shelf>(
     alloc: Global,
     keys: Keys,
     shelf: &mut H,
@@ -61,6 +62,34 @@ pub(crate) fn givens_in<H: Shelf>(
             Err(RelError::NoMemory) => Err(Unwritten::Refused(Refusal::NoMemory)),
         },
         Err(unread) => Err(Unwritten::First(FirstFile::Given, unread)),
+    }
+}
+
+/// What is known, if a file of known relationships is named.
+pub(crate) fn givens_for<H: Shelf>(
+    alloc: Global,
+    keys: Keys,
+    shelf: &mut H,
+    given: &Option<Name>,
+) -> Result<Option<List<Given>>, Unwritten>
+    ensures known { IfOk result (AreGivensIn (first_given given.now) (H.files shelf.old)) }
+    ensures of_some { IfOk result (AreSomeGivens (first_given given.now)) }
+    ensures sound { IfOk result AreSound }
+    ensures few { IfOk result (λ givens. length (unwrap_or givens []) ≤ max_givens) }
+    ensures unwritten { IfErr result (IsUnwrittenAtFirst (first_given given.now) (H.files shelf.old) (H.steady shelf.old)) }
+    ensures reach { IfErr result (IsFirstInReach (first_given given.now) (H.files shelf.old) (H.left shelf.new)) }
+    ensures at_first { IfErr result IsAtFirst }
+    ensures some { IfErr result (λ u. IsSome given.now) }
+    ensures opens { H.opens shelf.new ≡ H.opens shelf.old ++ first_named given.now }
+
+    ensures reads_shelf { ReadsShelf H.Shelf (IsErrAnd result IsFailedRead) shelf.old shelf.new }
+{
+    match given {
+        None => Ok(None),
+        Some(name) => match givens_in(alloc, keys, shelf, name) {
+            Ok(givens) => Ok(Some(givens)),
+            Err(unwritten) => Err(unwritten),
+        },
     }
 }
 

@@ -3,14 +3,18 @@
 #![tactic(auto)]
 
 mod asking;
+mod counting;
+mod dumps;
 mod first;
+mod inferring;
 mod listing;
+mod migrating;
 mod output;
 mod resuming;
 mod sampling;
 mod summary;
 mod unwritten;
 
-pub use asking::output_asked;
+pub use asking::output_for;
 pub use output::Output;
 pub use unwritten::{Unwritten, answer_to_unwritten};

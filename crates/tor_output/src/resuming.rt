@@ -8,17 +8,18 @@ ghost use Rattle.rel_infer.specs.GivenInference.{max_givens};
 ghost use Rattle.path_table.specs.Rows.{row_paths};
 ghost use Rattle.rel_infer.specs.Earlier.{BeginsWithPathsOf, BeginsWithEarlier, IsRestOf};
 ghost use Rattle.result_text.specs.declared.file.ResultFile.{ResultFile as File};
-ghost use Rattle.tor_words.specs.declared.settings.Source.TheVariants.{Earlier as from_earlier};
+ghost use Rattle.tor_words.specs.declared.job.Job.TheVariants.{Resume};
+ghost use Rattle.tor_words.specs.Given.{dumps_in};
 ghost use Rattle.run_base.specs.Answers.{IsReadFault};
 ghost use Rattle.run_base.specs.Frames.{ReadsShelf};
 ghost use Rattle.run_base.specs.Opening.{AllRead, OpensDumps, OpensInOrder};
 ghost use Rattle.tor_output.specs.Opening.{UnwrittenEnds, named_in};
 ghost use Rattle.tor_output.specs.Output.{IsResumed, IsOutput, IsOutputOf, IsOutputOn, IsOutputOnEarlier, IsOutputOnSome};
-ghost use Rattle.tor_output.specs.Reach.{IsUnwrittenInReach, StopsInReach};
-ghost use Rattle.tor_output.specs.Refusals.{IsFailedRead, IsStopOn, IsUnwrittenIn, past_limit};
-ghost use Rattle.tor_output.specs.Sampling.{IsEarlier};
+ghost use Rattle.tor_output.specs.Reach.{IsUnwrittenInReach, StopsDumpsInReach, StopsInReach};
+ghost use Rattle.tor_output.specs.Refusals.{IsFailedRead, IsStopAt, IsUnwrittenIn, past_limit};
+ghost use Rattle.tor_output.specs.First.{IsTakenUp, first_in};
 ghost use Rattle.tor_output.specs.Begun.{IsBegun};
-ghost use Rattle.tor_output.specs.Seen.{Outcome, ComesOfSome};
+ghost use Rattle.tor_output.specs.Seen.{Outcome, ComesOfSome, joined};
 ghost use Rattle.tor_output.specs.Written.{written};
 
 use crate::first::earlier_in;
@@ -136,26 +137,27 @@ fn joined_output<H: Shelf>(
     settings: &Settings,
     earlier: Rest,
     mut taken: Taken,
+    dumps: &List<Name>,
     shelf: &mut H,
 ) -> Result<Output, Refusal>
     requires ratio { settings.now.ratio ≤ max_ratio }
     requires few { length (unwrap_or earlier.givens []) ≤ max_givens }
     requires begun { (old : File) × Accepts old × IsBegun settings.now old earlier taken }
+    requires dumps { dumps_in settings.now ≡ dumps.now }
     ensures output { IfOk result (λ output. (old : File) → IsBegun settings.now old earlier taken → IfSome (H.files shelf.old) (λ files.
         IsOutputOnEarlier settings.now old files (written output))) }
     ensures of_some { IfOk result (λ output. (old : File) → IsBegun settings.now old earlier taken →
         IsOutputOnSome settings.now old (written output)) }
     ensures refused { IfErr result (λ refusal. (old : File) → IsBegun settings.now old earlier taken →
-        IsStopOn old settings.now (H.files shelf.old) (H.steady shelf.old) refusal) }
-    ensures read_out { OnOk result (0 < length settings.now.dumps → IsAtEnd (H.left shelf.new)) }
-    ensures reach { IfErr result (StopsInReach settings.now (H.files shelf.old) (H.left shelf.new)) }
-    ensures opens { OnOk result (H.opens shelf.new ≡ H.opens shelf.old ++ settings.now.dumps) }
-    ensures opens_stop { IfErr result (λ r. OpensDumps 0 settings.now.dumps r (H.opens shelf.old) (H.opens shelf.new)) }
+        IsStopAt (joined old settings.now.max_paths) (dumps_in settings.now) (H.files shelf.old) (H.steady shelf.old) refusal) }
+    ensures read_out { OnOk result (0 < length dumps.now → IsAtEnd (H.left shelf.new)) }
+    ensures reach { IfErr result (StopsDumpsInReach dumps.now (H.files shelf.old) (H.left shelf.new)) }
+    ensures opens { OnOk result (H.opens shelf.new ≡ H.opens shelf.old ++ dumps.now) }
+    ensures opens_stop { IfErr result (λ r. OpensDumps 0 dumps.now r (H.opens shelf.old) (H.opens shelf.new)) }
 
     ensures reads_shelf { ReadsShelf H.Shelf (IsErrAnd result IsReadFault) shelf.old shelf.new }
 {
-    let dumps = settings.dumps.as_slice();
-    match read_dumps(alloc, shelf, dumps, earlier.sets, &mut taken) {
+    match read_dumps(alloc, shelf, dumps.as_slice(), earlier.sets, &mut taken) {
         Ok(()) => {
             has_table_rows(&taken.table);
             match resumed_text(alloc, keys, settings, earlier, taken) {
@@ -177,9 +179,11 @@ fn output_on<H: Shelf>(
     keys: Keys,
     settings: &Settings,
     earlier: ResultFile,
+    dumps: &List<Name>,
     shelf: &mut H,
 ) -> Result<Output, Refusal>
-    requires source { IsEarlier settings.now.source }
+    requires dumps { dumps_in settings.now ≡ dumps.now }
+    requires resumes { IsTakenUp (first_in settings.now) }
     requires some { 1 ≤ settings.now.max_paths }
     requires most { settings.now.max_paths ≤ max_paths }
     requires ratio { settings.now.ratio ≤ max_ratio }
@@ -189,29 +193,32 @@ fn output_on<H: Shelf>(
     ensures output { IfOk result (λ output. IfSome (H.files shelf.old) (λ files.
         IsOutputOnEarlier settings.now earlier files (written output))) }
     ensures of_some { IfOk result (λ output. IsOutputOnSome settings.now earlier (written output)) }
-    ensures refused { IfErr result (IsStopOn earlier settings.now (H.files shelf.old) (H.steady shelf.old)) }
-    ensures read_out { OnOk result (0 < length settings.now.dumps → IsAtEnd (H.left shelf.new)) }
+    ensures refused { IfErr result (IsStopAt (joined earlier settings.now.max_paths) (dumps_in settings.now)
+        (H.files shelf.old) (H.steady shelf.old)) }
+    ensures read_out { OnOk result (0 < length dumps.now → IsAtEnd (H.left shelf.new)) }
     ensures reach { IfErr result (StopsInReach settings.now (H.files shelf.old) (H.left shelf.new)) }
-    ensures opens { OnOk result (H.opens shelf.new ≡ H.opens shelf.old ++ settings.now.dumps) }
-    ensures opens_stop { IfErr result (λ r. OpensDumps 0 settings.now.dumps r (H.opens shelf.old) (H.opens shelf.new)) }
+    ensures opens { OnOk result (H.opens shelf.new ≡ H.opens shelf.old ++ dumps.now) }
+    ensures opens_stop { IfErr result (λ r. OpensDumps 0 dumps.now r (H.opens shelf.old) (H.opens shelf.new)) }
 
     ensures reads_shelf { ReadsShelf H.Shelf (IsErrAnd result IsReadFault) shelf.old shelf.new }
 {
     match begun(alloc, keys, settings, earlier) {
-        Ok(begun) => joined_output(alloc, keys, settings, begun.rest, begun.taken, shelf),
+        Ok(begun) => joined_output(alloc, keys, settings, begun.rest, begun.taken, dumps, shelf),
         Err(refusal) => Err(refusal),
     }
 }
 
-/// The text of the result of the dumps on top of the one that the file of this name holds.
+/// The text of the result of the dumps of these names on top of the one that the file of this name holds.
 pub(crate) fn resumed_output<H: Shelf>(
     alloc: Global,
     keys: Keys,
     settings: &Settings,
     name: &Name,
+    dumps: &List<Name>,
     shelf: &mut H,
 ) -> Result<Output, Unwritten>
-    requires source { settings.now.source ≡ from_earlier name.now }
+    requires job { settings.now.job ≡ Resume name.now dumps.now }
+    requires named { 0 < length dumps.now }
     requires some { 1 ≤ settings.now.max_paths }
     requires most { settings.now.max_paths ≤ max_paths }
     requires ratio { settings.now.ratio ≤ max_ratio }
@@ -219,7 +226,7 @@ pub(crate) fn resumed_output<H: Shelf>(
     ensures of_some { IfOk result (λ output. (outcome : Outcome) × ComesOfSome settings.now outcome ×
         IsOutput settings.now outcome (written output)) }
     ensures unwritten { IfErr result (IsUnwrittenIn settings.now (H.files shelf.old) (H.steady shelf.old)) }
-    ensures read_out { OnOk result (0 < length settings.now.dumps → IsAtEnd (H.left shelf.new)) }
+    ensures read_out { OnOk result (IsAtEnd (H.left shelf.new)) }
     ensures reach { IfErr result (IsUnwrittenInReach settings.now (H.files shelf.old) (H.left shelf.new)) }
     ensures opens { OnOk result (OpensInOrder (named_in settings.now) (λ end. end ≡ AllRead) (H.opens shelf.old) (H.opens shelf.new)) }
     ensures opens_stop { IfErr result (λ u.
@@ -228,7 +235,7 @@ pub(crate) fn resumed_output<H: Shelf>(
     ensures reads_shelf { ReadsShelf H.Shelf (IsErrAnd result IsFailedRead) shelf.old shelf.new }
 {
     match earlier_in(alloc, keys, shelf, name) {
-        Ok(earlier) => match output_on(alloc, keys, settings, earlier, shelf) {
+        Ok(earlier) => match output_on(alloc, keys, settings, earlier, dumps, shelf) {
             Ok(output) => Ok(output),
             Err(refusal) => Err(Unwritten::Refused(refusal)),
         },

@@ -1,4 +1,6 @@
 //! The summary of a result.
+//!
+//! The count of paths stops at 2^64 - 1, so no condition on the totals is needed.
 ghost use Rattle.std.specs.Prelude.{◌≡◌, IfOk, OnOk, map, string_bytes};
 ghost use Rattle.serde_json.specs.View.{members_view, view};
 ghost use Rattle.tor_output.specs.Summary.{all_asides, summary_object, summary_of};

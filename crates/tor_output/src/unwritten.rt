@@ -1,12 +1,12 @@
 //! Why there is no text to write, and the answer then.
 ghost use Rattle.tor_output.specs.Refusals.{AnswersUnwritten};
 
+use result_file::verdict_text;
 use result_rules::Verdict;
 use run_base::{
     Answer, FirstFile, Refusal, Status, Unread, answer_to, answer_to_unread, bad_line_note,
 };
 use std::alloc::Global;
-use torcheck_run::verdict_text;
 
 /// Why there is no text to write.
 #[derive(Drop)]

@@ -3,6 +3,7 @@ use crate::conditions::Conditions;
 use crate::endless::Endless;
 use crate::files::Files;
 use run_base::Status;
+use showing_run::{view, why};
 use std::alloc::Global;
 use tor_arena::{Keys, List, NoMemory};
 use tor_io::{MemShelf, MemSink, Shelf};
@@ -10,8 +11,6 @@ use tor_run::infer;
 use tor_words::Name;
 use torcheck_run::check;
 use torgrade_run::grade;
-use torview_run::view;
-use torwhy_run::why;
 
 /// What is run, and with which words.
 #[derive(Clone, Copy)]

@@ -1,37 +1,48 @@
 //! The run of `tor`.
-ghost use Rattle.std.specs.Prelude.{◌≡◌, ◌≢◌, ◌≤◌, ◌⊎◌, List, Option, Some, IfSome, IsNone, ℕ, ⊤};
-ghost use Rattle.std.specs.Io.KnownBytes.{IsAtEnd};
-ghost use Rattle.tor_io.specs.Counts.{IsQuiet};
-ghost use Rattle.tor_io.specs.Contents.{Files};
-ghost use Rattle.dump_read.specs.declared.error.Place.{Place};
-ghost use Rattle.dump_read.specs.declared.error.Fault.{Fault as FaultKind};
-ghost use Rattle.dump_read.specs.declared.error.LimitKind.{LimitKind as Quantity};
-ghost use Rattle.dump_read.specs.Seen.{Absent, Malformed as MalformedAt, Limit as LimitOf};
-ghost use Rattle.dump_read.specs.declared.taking.Taken.{Taken};
-ghost use Rattle.tor_words.specs.Given.{settings_given};
-ghost use Rattle.relationships.specs.declared.given.Given.{Given};
-ghost use Rattle.result_text.specs.declared.file.ResultFile.{ResultFile};
-ghost use Rattle.tor_output.specs.First.{NoFile, TooLong, BadLine, Broken};
-ghost use Rattle.tor_output.specs.Reach.{EndsInReach};
-ghost use Rattle.tor_output.specs.Sampling.{IfSample, known_by};
-ghost use Rattle.tor_output.specs.Seen.{Reads, Joins, Holds, Stops, Ends, Gives};
-ghost use Rattle.tor_output.specs.Answer.{IsNote, LeadsToBroken, LeadsToMalformed, LeadsToLimit, LeadsToAbsent};
-ghost use Rattle.run_base.specs.Answers.{IsNoted};
-ghost use Rattle.tor_output.specs.Grading.{AsksForSerial, GainsGrading};
-ghost use Rattle.tor_output.specs.Output.{GainsOutput, GainsOutputPrefix, GainsSome, GainsSomePrefix};
-ghost use Rattle.tor_output.specs.Resuming.{AsksToResume, GainsResumed};
+ghost use Rattle.std.specs.Prelude.{◌≡◌, ◌≤◌, IfSome};
+ghost use Rattle.tor_arena.specs.Limits.{max_paths, max_ratio};
+ghost use Rattle.tor_words.specs.Given.{HasDumps};
 ghost use Rattle.run_base.specs.Answers.{note_in};
-ghost use Rattle.run_base.specs.Frames.{RunLeavesShelf, RunLeavesOut};
-ghost use Rattle.run_base.specs.Opening.{OpensInOrder, EndsSo};
-ghost use Rattle.tor_output.specs.Opening.{files_named};
+ghost use Rattle.run_base.specs.Promises.{EndsIn, KeepsPromises, RunEnds};
+ghost use Rattle.tor_output.specs.First.{AsksToResume};
+ghost use Rattle.tor_output.specs.Grading.{AsksForSerial, GainsGrading};
+ghost use Rattle.tor_output.specs.Inferring.{inferring};
+ghost use Rattle.tor_output.specs.Resuming.{GainsResumed};
+ghost use Rattle.tor_output.specs.Sampling.{known_by};
 
 use result_text::one_value;
-use run_base::{Answer, Note, Status};
+use run_base::{Answer, Note, Status, answer_of_words, note_answer};
 use std::alloc::Global;
 use tor_arena::{Keys, List};
-use tor_io::{Failed, Shelf, Sink, write_all};
-use tor_output::{answer_to_unwritten, output_asked};
-use tor_words::{Name, bounds_law};
+use tor_io::{Failed, Shelf, Sink};
+use tor_output::{answer_to_unwritten, output_for};
+use tor_words::{Name, Settings, bounds_law, settings_of};
+
+// The run with these settings, without its note.
+fn answer_in<H: Shelf, O: Sink>(
+    alloc: Global,
+    keys: Keys,
+    settings: &Settings,
+    shelf: &mut H,
+    out: &mut O,
+) -> Answer
+    requires named { HasDumps settings.now.job }
+    requires some { 1 ≤ settings.now.max_paths }
+    requires most { settings.now.max_paths ≤ max_paths }
+    requires ratio { settings.now.ratio ≤ max_ratio }
+    ensures { EndsIn inferring settings.now H.Shelf O.Sink result.status (note_in result) shelf.old shelf.new out.old out.new }
+{
+    match output_for(alloc, keys, settings, shelf) {
+        Ok(output) => match output.write_to(alloc, out) {
+            Ok(note) => Answer {
+                status: Status::Done,
+                note: Note::Octets(note),
+            },
+            Err(Failed) => Answer::plain(Status::WriteFault),
+        },
+        Err(unwritten) => answer_to_unwritten(alloc, unwritten),
+    }
+}
 
 // The run without its note: what it answers doesn't depend on where the note goes.
 fn answer<H: Shelf, O: Sink>(
@@ -41,42 +52,12 @@ fn answer<H: Shelf, O: Sink>(
     shelf: &mut H,
     out: &mut O,
 ) -> Answer
-    // What is written.
-    ensures done { result.status ≡ Status.Done → IfSome (known_by words.now (H.files shelf.old)) (λ files.
-        GainsOutput words.now files (O.held out.old) (O.held out.new) (note_in result)) }
-    ensures cut_off { result.status ≡ Status.WriteFault → IfSome (known_by words.now (H.files shelf.old)) (λ files.
-        GainsOutputPrefix words.now files (O.held out.old) (O.held out.new)) }
-    ensures some { result.status ≡ Status.Done → GainsSome words.now (O.held out.old) (O.held out.new) (note_in result) }
-    ensures some_cut_off { result.status ≡ Status.WriteFault → GainsSomePrefix words.now (O.held out.old) (O.held out.new) }
-    ensures nothing { result.status ≢ Status.Done → result.status ≢ Status.WriteFault → out.new ≡ out.old }
-
-    // Why it is answered.
-    ensures note { IsNote words.now (known_by words.now (H.files shelf.old)) (H.steady shelf.old) (H.left shelf.new) result.status
-        (note_in result) }
-    ensures usage { result.status ≡ Status.Usage → IsNone (settings_given words.now) }
-    ensures always_usage { IsNone (settings_given words.now) →
-        (result.status ≡ Status.Usage) ⊎ (result.status ≡ Status.NoMemory) }
-
-    // What is left in the objects.
-    ensures read_out { result.status ≡ Status.Done → IfSample words.now ⊤ (IsAtEnd (H.left shelf.new)) }
-    ensures sample { IfSample words.now (shelf.new ≡ shelf.old) ⊤ }
-    ensures no_fault { IfSample words.now (result.status ≢ Status.ReadFault) ⊤ }
-    ensures reach { EndsInReach words.now (H.files shelf.old) (H.left shelf.new) result.status (note_in result) }
-    ensures opens { OpensInOrder (files_named words.now) (EndsSo result.status (note_in result))
-        (H.opens shelf.old) (H.opens shelf.new) }
-    ensures untouched { result.status ≡ Status.Usage → shelf.new ≡ shelf.old }
-    ensures leaves_shelf { RunLeavesShelf H.Shelf result.status shelf.old shelf.new }
-    ensures leaves_out { RunLeavesOut O.Sink result.status out.old out.new }
+    ensures { RunEnds inferring words.now H.Shelf O.Sink result.status (note_in result) shelf.old shelf.new out.old out.new }
 {
-    match output_asked(alloc, keys, words, shelf) {
-        Ok(output) => match output.write_to(alloc, out) {
-            Ok(note) => Answer {
-                status: Status::Done,
-                note: Note::Octets(note),
-            },
-            Err(Failed) => Answer::plain(Status::WriteFault),
-        },
-        Err(unwritten) => answer_to_unwritten(alloc, unwritten),
+    bounds_law();
+    match settings_of(alloc, words) {
+        Ok(settings) => answer_in(alloc, keys, &settings, shelf, out),
+        Err(refused) => answer_of_words(refused),
     }
 }
 
@@ -98,18 +79,7 @@ pub fn infer<H: Shelf, O: Sink, E: Sink>(
     out: &mut O,
     err: &mut E,
 ) -> Status
-    // What is written: at Done out gained the text that is asked for, and err the note that goes with it, or a prefix of the note
-    // where err failed; at WriteFault out gained a prefix of the text; and else nothing goes to out.
-    ensures done { result ≡ Status.Done → IfSome (known_by words.now (H.files shelf.old)) (λ files.
-        IsNoted (GainsOutput words.now files (O.held out.old) (O.held out.new))
-        (E.faults err.old) (E.faults err.new) (E.held err.old) (E.held err.new)) }
-    ensures cut_off { result ≡ Status.WriteFault → IfSome (known_by words.now (H.files shelf.old)) (λ files.
-        GainsOutputPrefix words.now files (O.held out.old) (O.held out.new)) }
-    // The same of files of which nothing is known: the text is one that the words ask for of some paths, counts and givens, of some
-    // result, or of some paths and counts on top of one.
-    ensures some { result ≡ Status.Done → IsNoted (GainsSome words.now (O.held out.old) (O.held out.new))
-        (E.faults err.old) (E.faults err.new) (E.held err.old) (E.held err.new) }
-    ensures some_cut_off { result ≡ Status.WriteFault → GainsSomePrefix words.now (O.held out.old) (O.held out.new) }
+    ensures promises { KeepsPromises inferring words.now H.Shelf O.Sink E.Sink result shelf.old shelf.new out.old out.new err.old err.new }
     // With `--serial1` what is written says of the paths of the dumps which ones are kept under what is known: read as known relationships,
     // exactly these are free under it, and no path is unknown.
     ensures graded { result ≡ Status.Done → AsksForSerial words.now → IfSome (known_by words.now (H.files shelf.old)) (λ files.
@@ -118,85 +88,10 @@ pub fn infer<H: Shelf, O: Sink, E: Sink>(
     // of those that the words name.
     ensures resumed { result ≡ Status.Done → AsksToResume words.now → IfSome (known_by words.now (H.files shelf.old)) (λ files.
         GainsResumed words.now files (O.held out.old) (O.held out.new)) }
-    ensures nothing { result ≢ Status.Done → result ≢ Status.WriteFault → out.new ≡ out.old }
-
-    // When each status may come.
-    ensures usage { result ≡ Status.Usage → IsNone (settings_given words.now) }
-    ensures malformed { result ≡ Status.Malformed → LeadsToMalformed words.now (known_by words.now (H.files shelf.old)) }
-    ensures limit { result ≡ Status.Limit → LeadsToLimit words.now (known_by words.now (H.files shelf.old)) }
-    ensures steady_read_fault { H.steady shelf.old → result ≡ Status.ReadFault →
-        LeadsToAbsent words.now (known_by words.now (H.files shelf.old)) }
-    ensures no { result ≡ Status.No → LeadsToBroken words.now (known_by words.now (H.files shelf.old)) }
-    ensures no_other { result ≡ Status.No → AsksToResume words.now }
-
-    // When each status has to come, or NoMemory.
-    ensures always_usage { IsNone (settings_given words.now) → (result ≡ Status.Usage) ⊎ (result ≡ Status.NoMemory) }
-    ensures always_done { (files : Files) (known : Option (List Given)) (taken : Taken) →
-        known_by words.now (H.files shelf.old) ≡ Some files → Gives words.now files (Reads known taken) →
-        IsQuiet (H.faults shelf.old) (H.faults shelf.new) ⊎ H.steady shelf.old →
-        IsQuiet (O.faults out.old) (O.faults out.new) →
-        (result ≡ Status.Done) ⊎ (result ≡ Status.NoMemory) }
-    ensures always_resumed { (files : Files) (earlier : ResultFile) (taken : Taken) →
-        known_by words.now (H.files shelf.old) ≡ Some files → Gives words.now files (Joins earlier taken) →
-        IsQuiet (H.faults shelf.old) (H.faults shelf.new) ⊎ H.steady shelf.old →
-        IsQuiet (O.faults out.old) (O.faults out.new) →
-        (result ≡ Status.Done) ⊎ (result ≡ Status.NoMemory) }
-    ensures always_no { (files : Files) (line rule : ℕ) →
-        known_by words.now (H.files shelf.old) ≡ Some files → Gives words.now files (Stops (Broken line rule)) →
-        IsQuiet (H.faults shelf.old) (H.faults shelf.new) ⊎ H.steady shelf.old →
-        (result ≡ Status.No) ⊎ (result ≡ Status.NoMemory) }
-    ensures always_migrated { (files : Files) (file : ResultFile) →
-        known_by words.now (H.files shelf.old) ≡ Some files → Gives words.now files (Holds file) →
-        IsQuiet (H.faults shelf.old) (H.faults shelf.new) ⊎ H.steady shelf.old →
-        IsQuiet (O.faults out.old) (O.faults out.new) →
-        (result ≡ Status.Done) ⊎ (result ≡ Status.NoMemory) }
-    ensures always_bad_line { (files : Files) (line : ℕ) →
-        known_by words.now (H.files shelf.old) ≡ Some files → Gives words.now files (Stops (BadLine line)) →
-        IsQuiet (H.faults shelf.old) (H.faults shelf.new) ⊎ H.steady shelf.old →
-        (result ≡ Status.Malformed) ⊎ (result ≡ Status.NoMemory) }
-    ensures always_malformed { (files : Files) (place : Place) (fault : FaultKind) →
-        known_by words.now (H.files shelf.old) ≡ Some files → Gives words.now files (Ends (MalformedAt place fault)) →
-        IsQuiet (H.faults shelf.old) (H.faults shelf.new) ⊎ H.steady shelf.old →
-        (result ≡ Status.Malformed) ⊎ (result ≡ Status.NoMemory) }
-    ensures always_too_long { (files : Files) →
-        known_by words.now (H.files shelf.old) ≡ Some files → Gives words.now files (Stops TooLong) →
-        IsQuiet (H.faults shelf.old) (H.faults shelf.new) ⊎ H.steady shelf.old →
-        (result ≡ Status.Limit) ⊎ (result ≡ Status.NoMemory) }
-    ensures always_limit { (files : Files) (kind : Quantity) (dump : ℕ) →
-        known_by words.now (H.files shelf.old) ≡ Some files → Gives words.now files (Ends (LimitOf kind dump)) →
-        IsQuiet (H.faults shelf.old) (H.faults shelf.new) ⊎ H.steady shelf.old →
-        (result ≡ Status.Limit) ⊎ (result ≡ Status.NoMemory) }
-    ensures always_no_first { (files : Files) →
-        known_by words.now (H.files shelf.old) ≡ Some files → Gives words.now files (Stops NoFile) →
-        (result ≡ Status.ReadFault) ⊎ (result ≡ Status.NoMemory) }
-    ensures always_absent { (files : Files) (dump : ℕ) →
-        known_by words.now (H.files shelf.old) ≡ Some files → Gives words.now files (Ends (Absent dump)) →
-        (result ≡ Status.ReadFault) ⊎ (result ≡ Status.NoMemory) }
-
-    // What is left in the objects: at Done nothing unread, the files as they were, no count lowered, at Usage and with `--sample` no
-    // call made on the shelf, no failed call passed over, and no fault where none failed.
-    ensures read_out { result ≡ Status.Done → IfSample words.now ⊤ (IsAtEnd (H.left shelf.new)) }
-    ensures sample { IfSample words.now (shelf.new ≡ shelf.old) ⊤ }
-    ensures no_fault { IfSample words.now (result ≢ Status.ReadFault) ⊤ }
-    ensures untouched { result ≡ Status.Usage → shelf.new ≡ shelf.old }
-    ensures leaves_shelf { RunLeavesShelf H.Shelf result shelf.old shelf.new }
-    ensures leaves_out { RunLeavesOut O.Sink result out.old out.new }
-    ensures err_later { E.faults err.old ≤ E.faults err.new }
-
-    // What is written to err: the status' note, or a prefix of it where err failed.
-    ensures note { IsNoted (IsNote words.now (known_by words.now (H.files shelf.old)) (H.steady shelf.old) (H.left shelf.new) result)
-        (E.faults err.old) (E.faults err.new) (E.held err.old) (E.held err.new) }
-    // And how far the file or the dump that it names was read.
-    ensures reach { IsNoted (EndsInReach words.now (H.files shelf.old) (H.left shelf.new) result)
-        (E.faults err.old) (E.faults err.new) (E.held err.old) (E.held err.new) }
-    // And which files were opened: those that the words name, in their order, up to the one at which it ended.
-    ensures opens { IsNoted (λ note. OpensInOrder (files_named words.now) (EndsSo result note) (H.opens shelf.old) (H.opens shelf.new))
-        (E.faults err.old) (E.faults err.new) (E.held err.old) (E.held err.new) }
 {
     // Laws that the promises rest on: a text has one value, and settings have bounds.
     one_value();
     bounds_law();
     let answer = answer(alloc, keys, words, shelf, out);
-    let _ = write_all(err, answer.note());
-    answer.status
+    note_answer(answer, err)
 }

@@ -1,4 +1,6 @@
 //! An orientation that serves, or a walk that refutes.
+//!
+//! A walk begins at the first edge whose literals share a class, and no shorter one is looked for.
 ghost use Rattle.std.specs.Prelude.{◌≡◌, length, IfOk};
 ghost use Rattle.relationships.specs.Graph.{edges};
 ghost use Rattle.relationships.specs.Evidence.{Refutes};

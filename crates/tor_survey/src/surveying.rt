@@ -1,4 +1,6 @@
 //! The survey of what dumps gave.
+//!
+//! A sum stops at 2^64 - 1 wherever it is made, so what several files hold is counted file by file.
 ghost use Rattle.std.specs.Prelude.{◌≡◌, IfOk, sum_by};
 ghost use Rattle.record_counts.specs.Counting.{capped};
 ghost use Rattle.tor_survey.specs.Surveys.{survey_of};

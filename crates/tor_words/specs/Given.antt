@@ -1,6 +1,7 @@
 -- The settings that words give.
-use Rattle.std.specs.Prelude.{◌≡◌, ◌≢◌, ℕ, ◌<◌, ◌≤◌, Bool, true, false, List, [], ◌∷◌, length, Option, Some, None}
-use Rattle.std.specs.Prelude.{IfSome, IsTrue, is_some, option_map, option_and_then, unwrap_or, if◌then◌else◌, codes}
+use Rattle.std.specs.Prelude.{◌≡◌, ℕ, ◌<◌, ◌≤◌, Bool, true, false, List, [], ◌∷◌, length, Option, Some, None, ⊤}
+use Rattle.std.specs.Prelude.{is_some, option_map, option_and_then, unwrap_or, if◌then◌else◌, codes}
+use Rattle.std.specs.List.{list_any}
 use Rattle.std.specs.Str.{bytes_eq}
 use Rattle.std.specs.Str.Parse.{digits_value, without_leading_plus}
 use Rattle.clap.specs.ValueTests.{is_unsigned_in}
@@ -8,11 +9,15 @@ use Rattle.clap.specs.Words.{Kinds, Row, Text, all_of, first_of, fault_of, match
 use Rattle.tor_arena.specs.Limits.{max_paths, max_ratio}
 use Rattle.path_clean.specs.declared.cleaned.Sets.{Sets}
 use Rattle.path_clean.specs.declared.cleaned.Sets.TheVariants.{Cut, Skip}
-use Rattle.tor_words.specs.declared.settings.Mode.{Mode}
-use Rattle.tor_words.specs.declared.settings.Mode.TheVariants.{Labels, Listing, Survey, Ties, Serial, Summary, Migrate, Resume}
-use Rattle.tor_words.specs.declared.settings.Source.{Source}
-use Rattle.tor_words.specs.declared.settings.Source.TheVariants.{Files, Sample, Result, Earlier}
+use Rattle.tor_words.specs.declared.job.Job.{Job}
+use Rattle.tor_words.specs.declared.job.Job.TheVariants.{Count, Infer, Sample, Migrate, Resume}
 use Rattle.tor_words.specs.declared.settings.Settings.{Settings}
+use Rattle.tor_words.specs.declared.task.Counted.{Counted}
+use Rattle.tor_words.specs.declared.task.Counted.TheVariants.{Listing, Survey}
+use Rattle.tor_words.specs.declared.task.Made.{Made}
+use Rattle.tor_words.specs.declared.task.Made.TheVariants as made
+use Rattle.tor_words.specs.declared.task.Task.{Task}
+use Rattle.tor_words.specs.declared.task.Task.TheVariants as task
 use Rattle.tor_words.specs.TorCommand.{tor_command}
 
 -- ---- values
@@ -43,22 +48,11 @@ abbrev pub is_true_text : Option Text → Bool
 is_true_text None = false
 is_true_text (Some text) = bytes_eq text (codes "true")
 
--- ---- settings
+-- ---- what clap found
 
 -- the names behind the options, in the order of the words
 abbrev pub names_in : List Row → List Text
 names_in rows = unwrap_or (all_of (codes "dump") rows) []
-
--- a mode before others, if it is asked for
-abbrev pub with_asked : Bool → Mode → List Mode → List Mode
-with_asked true mode modes = mode ∷ modes
-with_asked false mode modes = modes
-
--- what is asked for, where it is one thing at most
-abbrev pub alone : List Mode → Option (Option Mode)
-alone [] = Some None
-alone (mode ∷ []) = Some (Some mode)
-alone (mode ∷ other ∷ modes) = None
 
 abbrev pub has_flag : Text → List Row → Bool
 has_flag name rows = is_true_text (first_of name rows)
@@ -67,100 +61,97 @@ has_flag name rows = is_true_text (first_of name rows)
 abbrev pub has_option : Text → List Row → Bool
 has_option name rows = is_some (first_of name rows)
 
+-- ---- what is asked for
+
+-- a task before others, if it is asked for
+abbrev pub with_asked : Bool → Task → List Task → List Task
+with_asked true task tasks = task ∷ tasks
+with_asked false task tasks = tasks
+
+-- what is asked for, where it is one thing at most
+abbrev pub alone : List Task → Option (Option Task)
+alone [] = Some None
+alone (task ∷ []) = Some (Some task)
+alone (task ∷ other ∷ tasks) = None
+
 -- what is asked for in place of the result: with `--list` the list of the paths, with `--survey` what the dumps hold, with `--ties` the
 -- ties of the open edges, with `--serial1` the labels as lines of serial-1, with `--sample` the summary of the result over a sample,
 -- with `--migrate` a result in the text of version 2, and with `--resume` the result of dumps on top of an earlier one
-abbrev pub asked_in : List Row → List Mode
+abbrev pub asked_in : List Row → List Task
 asked_in rows =
-    with_asked (has_flag (codes "list") rows) Listing
-    (with_asked (has_flag (codes "survey") rows) Survey
-    (with_asked (has_flag (codes "ties") rows) Ties
-    (with_asked (has_flag (codes "serial1") rows) Serial
-    (with_asked (has_option (codes "sample") rows) Summary
-    (with_asked (has_flag (codes "migrate") rows) Migrate
-    (with_asked (has_option (codes "resume") rows) Resume []))))))
+    with_asked (has_flag (codes "list") rows) (task.Count Listing)
+    (with_asked (has_flag (codes "survey") rows) (task.Count Survey)
+    (with_asked (has_flag (codes "ties") rows) (task.Infer made.Ties)
+    (with_asked (has_flag (codes "serial1") rows) (task.Infer made.Serial)
+    (with_asked (has_option (codes "sample") rows) task.Sample
+    (with_asked (has_flag (codes "migrate") rows) task.Migrate
+    (with_asked (has_option (codes "resume") rows) task.Resume []))))))
 
--- what is written: the result, or what is asked for in its place, which is one thing at most
-abbrev pub mode_in : List Row → Option Mode
-mode_in rows = option_map (λ mode. unwrap_or mode Labels) (alone (asked_in rows))
+-- what is asked for: the result, or something in its place, which is one thing at most
+abbrev pub task_in : List Row → Option Task
+task_in rows = option_map (λ asked. unwrap_or asked (task.Infer made.Result)) (alone (asked_in rows))
 
--- files of dumps are named, at least one
-abbrev pub of_dumps : List Text → Option Source
-of_dumps [] = None
-of_dumps (dump ∷ dumps) = Some Files
+-- the options that a task refuses, of those that not every task takes: known relationships bind only what is made of dumps alone
+abbrev pub refused_by : Task → List Text
+refused_by (task.Infer made) = []
+refused_by _ = codes "given" ∷ []
 
--- a sample is named by its number, and no file beside it
-abbrev pub of_sample : Option Text → List Text → Option Source
-of_sample None names = None
-of_sample (Some text) [] = option_map Sample (number_in 0 18446744073709551615 text)
-of_sample (Some text) (name ∷ names) = None
+-- whether one of these is there
+abbrev pub refuses : List Row → Task → Bool
+refuses rows task = list_any (λ name. has_option name rows) (refused_by task)
 
--- one file is named, which holds a result
-abbrev pub of_result : List Text → Option Source
-of_result [] = None
-of_result (result ∷ []) = Some (Result result)
-of_result (result ∷ other ∷ names) = None
+-- ---- jobs: a task over the files that it needs, where these are named, and no others
 
--- an earlier result is named by the option, and beside it files of dumps, at least one
-abbrev pub of_earlier : Option Text → List Text → Option Source
-of_earlier None names = None
-of_earlier (Some text) [] = None
-of_earlier (Some text) (dump ∷ dumps) = Some (Earlier text)
+abbrev pub counting : Counted → List Text → Option Job
+counting counted [] = None
+counting counted (dump ∷ dumps) = Some (Count counted (dump ∷ dumps))
 
--- what is read
-abbrev pub source_of : Mode → (sample earlier : Option Text) (names : List Text) → Option Source
-source_of Summary sample earlier names = of_sample sample names
-source_of Migrate sample earlier names = of_result names
-source_of Resume sample earlier names = of_earlier earlier names
-source_of _ sample earlier names = of_dumps names
+abbrev pub inferring : Made → (given : Option Text) → List Text → Option Job
+inferring made given [] = None
+inferring made given (dump ∷ dumps) = Some (Infer made given (dump ∷ dumps))
 
--- the dumps among the names: all, but for a result that is read in place of dumps
-abbrev pub dumps_of : Source → List Text → List Text
-dumps_of (Result result) names = []
-dumps_of _ names = names
+-- a sample is named by its number
+abbrev pub sampling : Option Text → List Text → Option Job
+sampling None names = None
+sampling (Some text) [] = option_map Sample (number_in 0 18446744073709551615 text)
+sampling (Some text) (name ∷ names) = None
 
--- whether orientations that are made of dumps stand behind what is written, and known relationships may bind them
-abbrev pub may_have_given : Mode → Bool
-may_have_given Labels = true
-may_have_given Ties = true
-may_have_given Serial = true
-may_have_given _ = false
+abbrev pub migrating : List Text → Option Job
+migrating [] = None
+migrating (result ∷ []) = Some (Migrate result)
+migrating (result ∷ other ∷ names) = None
 
--- the file of known relationships, if one is named, which is refused where nothing is bound by it
-abbrev pub given_for : Mode → Option Text → Option (Option Text)
-given_for mode None = Some None
-given_for mode (Some name) = if may_have_given mode then Some (Some name) else None
+abbrev pub resuming : (earlier : Option Text) → List Text → Option Job
+resuming None names = None
+resuming (Some earlier) [] = None
+resuming (Some earlier) (dump ∷ dumps) = Some (Resume earlier (dump ∷ dumps))
 
--- what the matches and these names say of what is read
-abbrev pub source_in : List Row → Mode → (names : List Text) → Option Source
-source_in rows mode names = source_of mode (first_of (codes "sample") rows) (first_of (codes "resume") rows) names
+abbrev pub job_of : List Row → Task → List Text → Option Job
+job_of rows (task.Count counted) names = counting counted names
+job_of rows (task.Infer made) names = inferring made (first_of (codes "given") rows) names
+job_of rows task.Sample names = sampling (first_of (codes "sample") rows) names
+job_of rows task.Migrate names = migrating names
+job_of rows task.Resume names = resuming (first_of (codes "resume") rows) names
 
--- and of known relationships
-abbrev pub given_in : List Row → Mode → Option (Option Text)
-given_in rows mode = given_for mode (first_of (codes "given") rows)
+-- the job that these matches ask for with a task, where it refuses none of them
+abbrev pub job_in : List Row → Task → Option Job
+job_in rows task = if refuses rows task then None else job_of rows task (names_in rows)
+
+-- ---- settings
 
 -- the settings that these matches give, if they ask for something and their values are some
 abbrev pub settings_in : List Row → Option Settings
 settings_in rows =
-    option_and_then (λ mode.
+    option_and_then (λ task.
     option_and_then (λ sets.
     option_and_then (λ ratio.
     option_and_then (λ most.
-    option_and_then (λ source.
-    option_map (λ given. record {
-      mode = mode;
-      source = source;
-      sets = sets;
-      ratio = ratio;
-      max_paths = most;
-      given = given;
-      dumps = dumps_of source (names_in rows);
-    }) (given_in rows mode))
-    (source_in rows mode (names_in rows)))
+    option_map (λ job. record { job = job; sets = sets; ratio = ratio; max_paths = most })
+    (job_in rows task))
     (number_or 1 max_paths max_paths (first_of (codes "max-paths") rows)))
     (number_or 0 max_ratio 60 (first_of (codes "ratio") rows)))
     (sets_or_cut (first_of (codes "as-sets") rows)))
-    (mode_in rows)
+    (task_in rows)
 
 -- the same where clap finds no fault, and nothing where it does
 abbrev pub unless_fault : {X : Type 0} → Kinds → Option X → Option X
@@ -173,32 +164,29 @@ settings_given words = unless_fault (fault_of tor_command words) (settings_in (m
 
 -- ---- what holds of each
 
--- where files of dumps are read at least one is named, and else none
-abbrev pub HasDumps : Source → List Text → Type 0
-HasDumps Files dumps = 0 < length dumps
-HasDumps (Earlier name) dumps = 0 < length dumps
-HasDumps _ dumps = dumps ≡ []
+-- the dumps that a job reads, in their order
+abbrev pub dumps_of : Job → List Text
+dumps_of (Count counted dumps) = dumps
+dumps_of (Infer made given dumps) = dumps
+dumps_of (Sample seed) = []
+dumps_of (Migrate result) = []
+dumps_of (Resume earlier dumps) = dumps
 
--- a sample is summed up, a result is written in the text of version 2, an earlier result is resumed, and nothing else is any of these
-abbrev pub IsWrittenOf : Source → Mode → Type 0
-IsWrittenOf Files mode = (mode ≢ Summary) × (mode ≢ Migrate) × (mode ≢ Resume)
-IsWrittenOf (Sample seed) mode = mode ≡ Summary
-IsWrittenOf (Result result) mode = mode ≡ Migrate
-IsWrittenOf (Earlier name) mode = mode ≡ Resume
+abbrev pub dumps_in : Settings → List Text
+dumps_in settings = dumps_of settings.job
 
--- known relationships stand only where they bind something
-abbrev pub IsGivenTo : Mode → Option Text → Type 0
-IsGivenTo mode given = IfSome given (λ name. IsTrue (may_have_given mode))
+-- dumps are named, at least one, but where a sample or a result is read in their place
+abbrev pub HasDumps : Job → Type 0
+HasDumps (Sample seed) = ⊤
+HasDumps (Migrate result) = ⊤
+HasDumps job = 0 < length (dumps_of job)
 
--- the numbers are within their bounds, dumps are named exactly where files of dumps are read, and what is written and what is given go
--- with what is read
+-- the numbers are within their bounds, and dumps are named where they are read
 pub record AreBounded (settings : Settings) : Type 0 where
   pub ratio : settings.ratio ≤ max_ratio
   pub some : 1 ≤ settings.max_paths
   pub most : settings.max_paths ≤ max_paths
-  pub named : HasDumps settings.source settings.dumps
-  pub written : IsWrittenOf settings.source settings.mode
-  pub bound : IsGivenTo settings.mode settings.given
+  pub named : HasDumps settings.job
 
 abbrev pub BoundsLaw : Type 0
 BoundsLaw = (words : List Text) (settings : Settings) → settings_given words ≡ Some settings → AreBounded settings

@@ -5,10 +5,10 @@ ghost use Rattle.tor_words.specs.CheckGiven.{check_settings_in, check_settings_g
 ghost use Rattle.tor_words.specs.Refused.{IsUsage, SaysUsage};
 
 use crate::command::check_command;
+use crate::found::{first, names_in};
 use crate::matching::matches_of;
 use crate::name::Name;
 use crate::refused::{WordsRefused, usage};
-use crate::settings::{first, names_in};
 use clap::ArgMatches;
 use std::alloc::Global;
 use tor_arena::List;

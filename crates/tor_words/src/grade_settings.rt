@@ -4,11 +4,11 @@ ghost use Rattle.clap.specs.Words.{found_of, rows_of};
 ghost use Rattle.tor_words.specs.GradeGiven.{cone_in, grade_settings_in, grade_settings_given};
 ghost use Rattle.tor_words.specs.Refused.{IsUsage, SaysUsage};
 
+use crate::found::{first, names_in};
 use crate::grade_command::grade_command;
 use crate::matching::matches_of;
 use crate::name::Name;
 use crate::refused::{WordsRefused, usage};
-use crate::settings::{first, names_in};
 use crate::values::number_in;
 use clap::ArgMatches;
 use std::alloc::Global;

@@ -4,10 +4,10 @@ ghost use Rattle.clap.specs.Words.{found_of, rows_of};
 ghost use Rattle.tor_words.specs.ViewGiven.{AreFew, depth_in, drawn_in, most_in, view_settings_in, view_settings_given};
 ghost use Rattle.tor_words.specs.Refused.{IsUsage, SaysUsage};
 
+use crate::found::first;
 use crate::matching::matches_of;
 use crate::name::Name;
 use crate::refused::{WordsRefused, usage};
-use crate::settings::first;
 use crate::values::{number_or, short_number};
 use crate::view_command::view_command;
 use clap::ArgMatches;

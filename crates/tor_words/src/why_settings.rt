@@ -4,10 +4,10 @@ ghost use Rattle.clap.specs.Words.{found_of, rows_of};
 ghost use Rattle.tor_words.specs.WhyGiven.{asked_in, edge_asked, path_asked, what_asked, why_settings_in, why_settings_given};
 ghost use Rattle.tor_words.specs.Refused.{IsUsage, SaysUsage};
 
+use crate::found::first;
 use crate::matching::matches_of;
 use crate::name::Name;
 use crate::refused::{WordsRefused, usage};
-use crate::settings::first;
 use crate::values::short_number;
 use crate::why_command::why_command;
 use clap::ArgMatches;

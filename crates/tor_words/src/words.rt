@@ -2,8 +2,8 @@
 ghost use Rattle.std.specs.Prelude.{◌≡◌, IfOk, map, drop, string_bytes};
 ghost use Rattle.std.specs.Vec.Iter.{into_iter_items};
 
+use crate::found::add_copy;
 use crate::name::Name;
-use crate::settings::add_copy;
 use std::alloc::Global;
 use std::env;
 use tor_arena::{List, NoMemory};

@@ -1,37 +1,29 @@
--- The words and the files of a check give outcomes of one status.
-use Rattle.std.proofs.Common.{◌≡◌, ◌<◌, inl, inr, ℕ, List, [], ◌∷◌, length, Option, Some, None, Ok, Err, refl, sym, ap, subst, ◌∙◌, arith}
+-- The settings and the files of a check come to one outcome at most, and what a yes has shown.
+use Rattle.std.proofs.Common.{◌≡◌, ◌<◌, ◌≤◌, inl, inr, ℕ, List, [], ◌∷◌, length, Option, Some, None, Result, Ok, Err, refl, sym, ap, subst, ◌∙◌, arith}
 use Rattle.std.specs.Prelude.{IfSome}
 use Rattle.tor_io.specs.Contents.{Files}
+use Rattle.tor_arena.specs.Limits.{max_paths}
 use Rattle.result_text.specs.declared.file.ResultFile.{ResultFile}
 use Rattle.result_text.specs.Grammar.{IsTextOf}
-use Rattle.result_text.specs.Ranges.{IsInRange}
-use Rattle.result_text.specs.Text.{text}
 use Rattle.result_rules.specs.declared.verdict.Verdict.{Verdict}
 use Rattle.result_rules.specs.declared.verdict.Verdict.TheVariants.{Yes, No}
-use Rattle.result_rules.specs.Rules.{IsRefused}
 use Rattle.result_rules.specs.Valid.{AcceptanceLaw}
-use Rattle.result_rules.proofs.OneVerdict.{one_verdict_law, one_against_law}
-use Rattle.result_text.specs.Grammar.{IsBadLine}
-use Rattle.std.proofs.lemmas.Bool.{cases_order}
+use Rattle.result_rules.proofs.OneVerdict.{one_against_law}
 use Rattle.result_rules.specs.Against.{its_rows, JudgesAgainst}
 use Rattle.dump_read.specs.declared.taking.Taken.{Taken}
-use Rattle.dump_read.specs.Seen.{DumpsEnd, Absent, Malformed, Limit}
+use Rattle.dump_read.specs.Seen.{DumpsEnd}
 use Rattle.tor_words.specs.declared.check_settings.CheckSettings.{CheckSettings}
-use Rattle.tor_words.specs.CheckGiven.{check_settings_given}
-use Rattle.run_base.specs.declared.status.Status.{Status}
-use Rattle.run_base.specs.declared.status.Status.TheVariants as status
-use Rattle.torcheck_run.specs.Judging.{BreaksRule, IsAccepted, IsVerdict, JudgesByDumps, seen_for, Outcome, Judged, NoResult, TooLong, Ends, IsResult, SettingsGive, WordsGive, IsVouched}
+use Rattle.run_base.specs.Programs.{Outcome, Makes, NoFile, TooLong, BadLine, Breaks, Lacks, Ends, OneOutcome, HasOctets, Gives}
+use Rattle.run_base.specs.Reading.{nothing, seen_from}
 use Rattle.run_base.specs.WholeFile.{IsLongFile}
 use Rattle.run_base.proofs.Values as values
-use Rattle.torcheck_run.specs.CheckAnswer.{KnownFilesGive, status_of}
-use Rattle.torcheck_run.specs.Limits.{max_result}
-
--- each text has one value
-abbrev pub OneValue : Type 0
-OneValue = (file other : ResultFile) → IsInRange file → IsInRange other → text file ≡ text other → file ≡ other
-
-pub same_file : OneValue → (bytes : List ℕ) (f g : ResultFile) → IsTextOf f bytes → IsTextOf g bytes → f ≡ g
-same_file law bytes f g a b = law f g a.in_range b.in_range (sym a.encoded ∙ b.encoded)
+use Rattle.result_file.specs.Limits.{max_result}
+use Rattle.result_file.specs.Ruled.{BreaksRule, IsAccepted}
+use Rattle.result_file.proofs.OneRuling.{OneValue, none_broken, one_broken, same_file}
+use Rattle.torcheck_run.specs.declared.judging.Judged.{Judged}
+use Rattle.torcheck_run.specs.declared.judging.Judged.TheVariants.{ByFile, ByDumps}
+use Rattle.torcheck_run.specs.Checking.{GivesOutcome, GivesVerdict, Holds, JudgesDumps, checking, verdict_in}
+use Rattle.torcheck_run.specs.Judging.{IsVerdict, IsVouched, JudgesByDumps, seen_for}
 
 -- ---- yes and no
 
@@ -42,40 +34,6 @@ by_dumps file (dump ∷ dumps) files v w one other =
     let same : other.0 ≡ one.0 = values.ok_is (seen_for file (dump ∷ dumps) files) other.0 one.0 other.1 one.1 in
     one_against_law file one.0.table.rows one.0.counts v w one.2 (subst (λ (t : Taken). JudgesAgainst file t.table.rows t.counts w) same other.2)
 
--- bytes that are accepted break no rule of 0 to 10
-pub none_broken : OneValue → (bytes : List ℕ) (file : ResultFile) (verdict : Verdict) → IsAccepted file bytes → BreaksRule bytes verdict → ⊥
-none_broken law bytes file Yes accepted broken = broken
-none_broken law bytes file (No line rule) accepted (inl zero) = zero.1.outside (file, accepted.text)
-none_broken law bytes file (No line rule) accepted (inr broken) =
-    let same : broken.0 ≡ file = same_file law bytes broken.0 file broken.1 accepted.text in
-    let refused : IsRefused file line rule = subst (λ f. IsRefused f line rule) same broken.2 in
-    refused.first.breach (accepted.rules refused.rule refused.place refused.first.within)
-
--- a bad line is one
-pub one_bad_line : (bytes : List ℕ) (n m : ℕ) → IsBadLine n bytes → IsBadLine m bytes → n ≡ m
-one_bad_line bytes n m a b = elim (cases_order n m) [
-  | inl e ↦ e
-  | inr o ↦ elim o [
-    | inl lt ↦ absurd (a.bad (b.least n lt))
-    | inr lt ↦ absurd (b.bad (a.least m lt))
-  ]
-]
-
-no_is : (line line' rule rule' : ℕ) → line ≡ line' → rule ≡ rule' → No line rule ≡ No line' rule'
-no_is line line' rule rule' e f = cc
-
--- the rules 0 to 10 say one thing
-one_broken : OneValue → (bytes : List ℕ) (v w : Verdict) → BreaksRule bytes v → BreaksRule bytes w → v ≡ w
-one_broken law bytes Yes w one other = absurd one
-one_broken law bytes (No line rule) Yes one other = absurd other
-one_broken law bytes (No line rule) (No line' rule') (inl zero) (inl zero') =
-    no_is line line' rule rule' (one_bad_line bytes line line' zero.1 zero'.1) (zero.0 ∙ sym zero'.0)
-one_broken law bytes (No line rule) (No line' rule') (inl zero) (inr broken) = absurd (zero.1.outside (broken.0, broken.1))
-one_broken law bytes (No line rule) (No line' rule') (inr broken) (inl zero) = absurd (zero.1.outside (broken.0, broken.1))
-one_broken law bytes (No line rule) (No line' rule') (inr broken) (inr broken') =
-    let same : broken'.0 ≡ broken.0 = same_file law bytes broken'.0 broken.0 broken'.1 broken.1 in
-    one_verdict_law broken.0 (No line rule) (No line' rule') broken.2 (subst (λ f. IsRefused f line' rule') same broken'.2)
-
 pub one_verdict : OneValue → (bytes : List ℕ) (dumps : List (List ℕ)) (files : Files) (v w : Verdict) → IsVerdict bytes dumps files v → IsVerdict bytes dumps files w → v ≡ w
 one_verdict law bytes dumps files v w (inl one) (inl other) = one_broken law bytes v w one other
 one_verdict law bytes dumps files v w (inl one) (inr other) = absurd (none_broken law bytes other.0 v other.1 one)
@@ -84,106 +42,121 @@ one_verdict law bytes dumps files v w (inr one) (inr other) =
     let same : other.0 ≡ one.0 = same_file law bytes other.0 one.0 other.1.text one.1.text in
     by_dumps one.0 dumps files v w one.2 (subst (λ f. JudgesByDumps f dumps files w) same other.2)
 
-verdicts : OneValue → (bytes : List ℕ) (dumps : List (List ℕ)) (files : Files) (v w : Verdict) → IsVerdict bytes dumps files v → IsVerdict bytes dumps files w → status_of v ≡ status_of w
-verdicts law bytes dumps files v w one other = ap status_of (one_verdict law bytes dumps files v w one other)
+-- ---- outcomes
 
--- ---- a verdict or an end of the dumps
+-- where the files are known
+pub as_known : (file : ResultFile) (dumps : List (List ℕ)) (files : Files) (v : Verdict) → JudgesDumps (Some files) file dumps v → JudgesByDumps file dumps files v
+as_known file [] files v judged = judged
+as_known file (dump ∷ dumps) files v judged = judged
 
 -- where a verdict comes of the dumps these have no end
-no_end : (file : ResultFile) (dumps : List (List ℕ)) (files : Files) (verdict : Verdict) (end : DumpsEnd) → JudgesByDumps file dumps files verdict → seen_for file dumps files ≡ Err end → ⊥
+no_end : (file : ResultFile) (dumps : List (List ℕ)) (files : Files) (verdict : Verdict) (end : DumpsEnd) → JudgesDumps (Some files) file dumps verdict → seen_for file dumps files ≡ Err end → ⊥
 no_end file [] files verdict end judged ends = values.ok_not_err (seen_for file [] files) _ end refl ends
 no_end file (dump ∷ dumps) files verdict end judged ends = values.ok_not_err (seen_for file (dump ∷ dumps) files) judged.0 end judged.1 ends
 
-no_verdict : OneValue → (bytes : List ℕ) (dumps : List (List ℕ)) (files : Files) (verdict : Verdict) (file : ResultFile) (end : DumpsEnd) → IsVerdict bytes dumps files verdict
-    → IsAccepted file bytes → seen_for file dumps files ≡ Err end → ⊥
-no_verdict law bytes dumps files verdict file end (inl broken) accepted ends = none_broken law bytes file verdict accepted broken
-no_verdict law bytes dumps files verdict file end (inr judged) accepted ends =
-    let same : judged.0 ≡ file = same_file law bytes judged.0 file judged.1.text accepted.text in
-    no_end file dumps files verdict end (subst (λ f. JudgesByDumps f dumps files verdict) same judged.2) ends
+by_file : (l r l' r' : ℕ) → No l r ≡ No l' r' → ByFile l r ≡ ByFile l' r'
+by_file l r l' r' e = cc
 
--- ---- outcomes
+module _ (law : OneValue) (settings : CheckSettings) (files : Files) where
+  abbrev Has : List ℕ → Type 0
+  Has bytes = HasOctets (Some files) settings.result max_result bytes
 
--- the status that an outcome asks for
-abbrev pub status_for : Outcome → Status
-status_for (Judged verdict) = status_of verdict
-status_for NoResult = status.ReadFault
-status_for TooLong = status.Limit
-status_for (Ends (Absent dump)) = status.ReadFault
-status_for (Ends (Malformed place fault)) = status.Malformed
-status_for (Ends (Limit kind dump)) = status.Limit
+  not_there : {X : Type 0} (bytes : List ℕ) → Has bytes → files settings.result ≡ None → X
+  not_there bytes is none = values.some_not_none (files settings.result) bytes is.there none
 
-not_there : {X : Type 0} (settings : CheckSettings) (files : Files) (bytes : List ℕ) → IsResult settings files bytes → files settings.result ≡ None → X
-not_there settings files bytes is none = values.some_not_none (files settings.result) bytes is.there none
+  not_long : {X : Type 0} (bytes : List ℕ) → Has bytes → IsLongFile max_result (files settings.result) → X
+  not_long bytes is long = values.not_long max_result (files settings.result) bytes is.there is.short long
 
-pub not_long : {X : Type 0} (settings : CheckSettings) (files : Files) (bytes : List ℕ) → IsResult settings files bytes → IsLongFile max_result (files settings.result) → X
-not_long settings files bytes is long = values.not_long max_result (files settings.result) bytes is.there is.short long
+  none_long : {X : Type 0} → files settings.result ≡ None → IsLongFile max_result (files settings.result) → X
+  none_long is long = values.none_long max_result (files settings.result) is long
 
-none_long : {X : Type 0} (settings : CheckSettings) (files : Files) → files settings.result ≡ None → IsLongFile max_result (files settings.result) → X
-none_long settings files is long = values.none_long max_result (files settings.result) is long
+  same_octets : (a b : List ℕ) → Has a → Has b → a ≡ b
+  same_octets a b one other = values.some_is (files settings.result) a b one.there other.there
 
-same_result : (settings : CheckSettings) (files : Files) (a b : List ℕ) → IsResult settings files a → IsResult settings files b → a ≡ b
-same_result settings files a b one other = values.some_is (files settings.result) a b one.there other.there
+  same_held : (f g : ResultFile) → Holds settings (Some files) f → Holds settings (Some files) g → f ≡ g
+  same_held f g one other =
+      same_file law one.0 f g one.2.text (subst (IsTextOf g) (same_octets other.0 one.0 other.1 one.1) other.2.text)
 
-same_status : OneValue → (settings : CheckSettings) (files : Files) (x y : Outcome) → SettingsGive settings files x → SettingsGive settings files y → status_for x ≡ status_for y
-same_status law settings files (Judged v) (Judged w) one other =
-    let same : other.0 ≡ one.0 = same_result settings files other.0 one.0 other.1 one.1 in
-    verdicts law one.0 settings.dumps files v w one.2 (subst (λ b. IsVerdict b settings.dumps files w) same other.2)
-same_status law settings files (Judged v) NoResult one other = not_there settings files one.0 one.1 other
-same_status law settings files (Judged v) TooLong one other = not_long settings files one.0 one.1 other
-same_status law settings files (Judged v) (Ends end) one other =
-    let same : other.0 ≡ one.0 = same_result settings files other.0 one.0 other.2 one.1 in
-    absurd (no_verdict law one.0 settings.dumps files v other.1 end one.2 (subst (λ b. IsAccepted other.1 b) same other.3) other.4)
-same_status law settings files NoResult (Judged w) one other = not_there settings files other.0 other.1 one
-same_status law settings files NoResult NoResult one other = refl
-same_status law settings files NoResult TooLong one other = none_long settings files one other
-same_status law settings files NoResult (Ends end) one other = not_there settings files other.0 other.2 one
-same_status law settings files TooLong (Judged w) one other = not_long settings files other.0 other.1 one
-same_status law settings files TooLong NoResult one other = none_long settings files other one
-same_status law settings files TooLong TooLong one other = refl
-same_status law settings files TooLong (Ends end) one other = not_long settings files other.0 other.2 one
-same_status law settings files (Ends end) (Judged w) one other =
-    let same : one.0 ≡ other.0 = same_result settings files one.0 other.0 one.2 other.1 in
-    absurd (no_verdict law other.0 settings.dumps files w one.1 end other.2 (subst (λ b. IsAccepted one.1 b) same one.3) one.4)
-same_status law settings files (Ends end) NoResult one other = not_there settings files one.0 one.2 other
-same_status law settings files (Ends end) TooLong one other = not_long settings files one.0 one.2 other
-same_status law settings files (Ends end) (Ends end') one other =
-    let bytes : other.0 ≡ one.0 = same_result settings files other.0 one.0 other.2 one.2 in
-    let text : IsTextOf other.1 one.0 = subst (λ b. IsTextOf other.1 b) bytes other.3.text in
-    let file : other.1 ≡ one.1 = same_file law one.0 other.1 one.1 text one.3.text in
-    let ends : seen_for one.1 settings.dumps files ≡ Err end' = subst (λ f. seen_for f settings.dumps files ≡ Err end') file other.4 in
-    ap (λ e. status_for (Ends e)) (values.err_is (seen_for one.1 settings.dumps files) end end' one.4 ends)
+  not_broken : {X : Type 0} (file : ResultFile) (line rule : ℕ) → Holds settings (Some files) file → GivesVerdict settings (Some files) (ByFile line rule) → X
+  not_broken file line rule held broken =
+      absurd (none_broken law held.0 file (No line rule) held.2 (subst (λ b. BreaksRule b (No line rule)) (same_octets broken.0 held.0 broken.1 held.1) broken.2))
 
-same_settings : (words : List (List ℕ)) (s t : CheckSettings) → check_settings_given words ≡ Some s → check_settings_given words ≡ Some t → s ≡ t
-same_settings words s t = values.some_is (check_settings_given words) s t
+  octets_of : (j : Judged) → GivesVerdict settings (Some files) j → (bytes : List ℕ) × Has bytes
+  octets_of (ByFile line rule) gives = (gives.0, gives.1)
+  octets_of (ByDumps v) gives = (gives.1.0, gives.1.1)
 
-pub one_status : OneValue → (words : List (List ℕ)) (files : Files) (x y : Outcome) → WordsGive words files x → WordsGive words files y → status_for x ≡ status_for y
-one_status law words files x y one other =
-    let same : other.0 ≡ one.0 = same_settings words other.0 one.0 other.1 one.1 in
-    same_status law one.0 files x y one.2 (subst (λ s. SettingsGive s files y) same other.2)
+  same_judged : (j k : Judged) → GivesVerdict settings (Some files) j → GivesVerdict settings (Some files) k → j ≡ k
+  same_judged (ByFile l r) (ByFile l' r') one other =
+      by_file l r l' r' (one_broken law one.0 (No l r) (No l' r') one.2 (subst (λ b. BreaksRule b (No l' r')) (same_octets other.0 one.0 other.1 one.1) other.2))
+  same_judged (ByFile l r) (ByDumps w) one other = not_broken other.0 l r other.1 one
+  same_judged (ByDumps v) (ByFile l r) one other = not_broken one.0 l r one.1 other
+  same_judged (ByDumps v) (ByDumps w) one other =
+      let same : other.0 ≡ one.0 = same_held other.0 one.0 other.1 one.1 in
+      ap ByDumps (by_dumps one.0 settings.dumps files v w (as_known one.0 settings.dumps files v one.2)
+      (as_known one.0 settings.dumps files w (subst (λ f. JudgesDumps (Some files) f settings.dumps w) same other.2)))
+
+  no_verdict : {X : Type 0} (j : Judged) (file : ResultFile) (end : DumpsEnd) → GivesVerdict settings (Some files) j → Holds settings (Some files) file
+      → seen_for file settings.dumps files ≡ Err end → X
+  no_verdict (ByFile l r) file end gives held ends = not_broken file l r held gives
+  no_verdict (ByDumps v) file end gives held ends =
+      absurd (no_end file settings.dumps files v end (subst (λ f. JudgesDumps (Some files) f settings.dumps v) (same_held gives.0 file gives.1 held) gives.2) ends)
+
+  same : (x y : Outcome Judged) → GivesOutcome settings (Some files) x → GivesOutcome settings (Some files) y → x ≡ y
+  same (Makes j) (Makes k) one other = ap Makes (same_judged j k one other)
+  same (Makes j) NoFile one other = let has = octets_of j one in not_there has.0 has.1 other
+  same (Makes j) TooLong one other = let has = octets_of j one in not_long has.0 has.1 other
+  same (Makes j) (BadLine line) one other = absurd other
+  same (Makes j) (Breaks line rule) one other = absurd other
+  same (Makes j) (Lacks note) one other = absurd other
+  same (Makes j) (Ends end) one other = no_verdict j other.0 end one other.1 other.2
+  same NoFile (Makes k) one other = let has = octets_of k other in not_there has.0 has.1 one
+  same NoFile NoFile one other = refl
+  same NoFile TooLong one other = none_long one other
+  same NoFile (BadLine line) one other = absurd other
+  same NoFile (Breaks line rule) one other = absurd other
+  same NoFile (Lacks note) one other = absurd other
+  same NoFile (Ends end) one other = not_there other.1.0 other.1.1 one
+  same TooLong (Makes k) one other = let has = octets_of k other in not_long has.0 has.1 one
+  same TooLong NoFile one other = none_long other one
+  same TooLong TooLong one other = refl
+  same TooLong (BadLine line) one other = absurd other
+  same TooLong (Breaks line rule) one other = absurd other
+  same TooLong (Lacks note) one other = absurd other
+  same TooLong (Ends end) one other = not_long other.1.0 other.1.1 one
+  same (BadLine line) y one other = absurd one
+  same (Breaks line rule) y one other = absurd one
+  same (Lacks note) y one other = absurd one
+  same (Ends end) (Makes k) one other = no_verdict k one.0 end other one.1 one.2
+  same (Ends end) NoFile one other = not_there one.1.0 one.1.1 other
+  same (Ends end) TooLong one other = not_long one.1.0 one.1.1 other
+  same (Ends end) (BadLine line) one other = absurd other
+  same (Ends end) (Breaks line rule) one other = absurd other
+  same (Ends end) (Lacks note) one other = absurd other
+  same (Ends end) (Ends end') one other =
+      let file : other.0 ≡ one.0 = same_held other.0 one.0 other.1 one.1 in
+      ap Ends (values.err_is (seen_for one.0 settings.dumps files) end end' one.2 (subst (λ f. seen_for f settings.dumps files ≡ Err end') file other.2))
+
+pub one_outcome : OneValue → OneOutcome checking
+one_outcome law settings files x y one other = same law settings files x y one other
 
 -- ---- what a yes has shown
 
-agrees : (file : ResultFile) (dumps : List (List ℕ)) (files : Files) → JudgesByDumps file dumps files Yes → 0 < length dumps
+agrees : (file : ResultFile) (dumps : List (List ℕ)) (files : Files) → JudgesDumps (Some files) file dumps Yes → 0 < length dumps
     → (taken : Taken) × (seen_for file dumps files ≡ Ok taken) × (file.asides ≡ taken.counts) × (its_rows file ≡ taken.table.rows)
 agrees file [] files judged some = absurd (omega arith)
 agrees file (dump ∷ dumps) files judged some = (judged.0, judged.1, judged.2.0, judged.2.1)
 
-vouched : AcceptanceLaw → (words : List (List ℕ)) (files : Files) → WordsGive words files (Judged Yes) → IsVouched words files
-vouched law words files gives = by gives.2.2
-  where
-    by : IsVerdict gives.2.0 gives.0.dumps files Yes → IsVouched words files
-    by (inl broken) = absurd broken
-    by (inr judged) = record {
+pub vouched : AcceptanceLaw → (words : List (List ℕ)) (files : Files) (judged : Judged) → verdict_in judged ≡ Yes → Gives checking words (Some files) (Makes judged) → IsVouched words files
+vouched law words files (ByFile line rule) is gives = absurd cc
+vouched law words files (ByDumps v) is gives =
+    let judged = subst (JudgesDumps (Some files) gives.2.0 gives.0.dumps) is gives.2.2 in
+    record {
       settings = gives.0;
       given = gives.1;
-      bytes = gives.2.0;
-      there = gives.2.1.there;
-      file = judged.0;
-      text = judged.1.text;
-      valid = law judged.0 judged.1.rules;
-      agrees = agrees judged.0 gives.0.dumps files judged.2;
+      bytes = gives.2.1.0;
+      there = gives.2.1.1.there;
+      file = gives.2.0;
+      text = gives.2.1.2.text;
+      valid = law gives.2.0 gives.2.1.2.rules;
+      agrees = agrees gives.2.0 gives.0.dumps files judged;
     }
-
-pub vouched_known : AcceptanceLaw → (words : List (List ℕ)) (known : Option Files) → KnownFilesGive words known (Judged Yes) → IfSome known (IsVouched words)
-vouched_known law words None leads = tt
-vouched_known law words (Some files) leads = vouched law words files leads

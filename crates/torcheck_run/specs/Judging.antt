@@ -1,11 +1,10 @@
--- What the words and the files of a check give: a verdict on the result file, or why there is none.
-use Rattle.std.specs.Prelude.{◌≡◌, ◌<◌, ◌⊎◌, ℕ, List, [], ◌∷◌, length, Option, Some, None, Result, Ok, Err, IsOk}
+-- What a verdict means, beside files that are known.
+use Rattle.std.specs.Prelude.{◌≡◌, ◌<◌, ◌⊎◌, ℕ, List, [], ◌∷◌, length, Option, Some, Result, Ok, IsOk}
 use Rattle.tor_io.specs.Contents.{Files}
 use Rattle.result_text.specs.declared.file.ResultFile.{ResultFile}
-use Rattle.result_text.specs.Grammar.{IsTextOf, IsBadLine}
+use Rattle.result_text.specs.Grammar.{IsTextOf}
 use Rattle.result_rules.specs.declared.verdict.Verdict.{Verdict}
-use Rattle.result_rules.specs.declared.verdict.Verdict.TheVariants.{Yes, No}
-use Rattle.result_rules.specs.Rules.{Accepts, IsRefused}
+use Rattle.result_rules.specs.declared.verdict.Verdict.TheVariants.{Yes}
 use Rattle.result_rules.specs.Valid.{Valid}
 use Rattle.result_rules.specs.Against.{its_rows, JudgesAgainst}
 use Rattle.dump_read.specs.declared.taking.Taken.{Taken}
@@ -13,22 +12,10 @@ use Rattle.dump_read.specs.Seen.{DumpsEnd}
 use Rattle.tor_words.specs.declared.check_settings.CheckSettings.{CheckSettings}
 use Rattle.tor_words.specs.CheckGiven.{check_settings_given}
 use Rattle.run_base.specs.Reading.{nothing, seen_from}
-use Rattle.torcheck_run.specs.Limits.{max_result}
+use Rattle.result_file.specs.Limits.{max_result}
+use Rattle.result_file.specs.Ruled.{BreaksRule, IsAccepted}
 use Rattle.tor_arena.specs.Limits.{max_paths}
-use Rattle.run_base.specs.WholeFile.{IsFile, IsLongFile, LeavesRest, LeavesOnly}
-
--- ---- the rules 0 to 10, which the octets of the result file alone decide
-
--- the octets are the text of this result, which meets the rules 1 to 10
-pub record IsAccepted (file : ResultFile) (bytes : List ℕ) : Type 0 where
-  pub text : IsTextOf file bytes
-  pub rules : Accepts file
-
--- rule 0 says that the octets are a text. The least rule that is broken, and its first line
-abbrev pub BreaksRule : List ℕ → Verdict → Type 0
-BreaksRule bytes Yes = ⊥
-BreaksRule bytes (No line rule) =
-    ((rule ≡ 0) × IsBadLine line bytes) ⊎ ((file : ResultFile) × IsTextOf file bytes × IsRefused file line rule)
+use Rattle.run_base.specs.WholeFile.{IsFile}
 
 -- ---- rule 11, agreement with dumps
 
@@ -53,48 +40,9 @@ OneFileVerdictLaw =
     (bytes : List ℕ) (dumps : List (List ℕ)) (files : Files) (verdict other : Verdict) → IsVerdict bytes dumps files verdict →
     IsVerdict bytes dumps files other → verdict ≡ other
 
--- ---- the result file
-
--- the same of the result file that the words name
-abbrev pub LeavesRestOf : List (List ℕ) → Option Files → Option (List ℕ) → Type 0
-LeavesRestOf words known left =
-    (settings : CheckSettings) → check_settings_given words ≡ Some settings → LeavesRest max_result settings.result known left
-
--- the same of the result file that the words name
-abbrev pub LeavesOnlyResult : List (List ℕ) → Option Files → Option (List ℕ) → Type 0
-LeavesOnlyResult words known left =
-    (settings : CheckSettings) → check_settings_given words ≡ Some settings → LeavesOnly max_result settings.result known left
-
 -- the result file is there with these octets, and they are few enough
 abbrev pub IsResult : CheckSettings → Files → List ℕ → Type 0
 IsResult settings files bytes = IsFile max_result files settings.result bytes
-
--- ---- what a check comes to
-
-pub data Outcome : Type 0 where
-  -- a verdict on the result file
-  Judged : Verdict → Outcome
-  -- it isn't there
-  NoResult : Outcome
-  -- it has more octets than may be
-  TooLong : Outcome
-  -- it meets the rules 0 to 10, and the dumps have this end
-  Ends : DumpsEnd → Outcome
-
--- what the settings and the files give
-abbrev pub SettingsGive : CheckSettings → Files → Outcome → Type 0
-SettingsGive settings files (Judged verdict) =
-    (bytes : List ℕ) × IsResult settings files bytes × IsVerdict bytes settings.dumps files verdict
-SettingsGive settings files NoResult = files settings.result ≡ None
-SettingsGive settings files TooLong = IsLongFile max_result (files settings.result)
-SettingsGive settings files (Ends end) =
-    (bytes : List ℕ) × (file : ResultFile) × IsResult settings files bytes × IsAccepted file bytes ×
-    (seen_for file settings.dumps files ≡ Err end)
-
--- what the words and the files give
-abbrev pub WordsGive : List (List ℕ) → Files → Outcome → Type 0
-WordsGive words files outcome =
-    (settings : CheckSettings) × (check_settings_given words ≡ Some settings) × SettingsGive settings files outcome
 
 -- ---- what follows
 

@@ -1,12 +1,2 @@
-pub mod AskedOpening
-pub mod Asking
-pub mod CheckAnswer
-pub mod FileText
+pub mod Checking
 pub mod Judging
-pub mod Limits
-pub mod Opening
-pub mod Reach
-pub mod Ruled
-pub mod Saying
-pub mod Unjudging
-pub mod Unsaying

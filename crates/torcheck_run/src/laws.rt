@@ -1,8 +1,5 @@
-//! The law of verdicts, and the bound on a result file as a number.
-
-ghost use Rattle.std.specs.Prelude.{◌≡◌, ◌^◌};
+//! The law of verdicts.
 ghost use Rattle.torcheck_run.specs.Judging.{OneFileVerdictLaw};
-ghost use Rattle.torcheck_run.specs.Limits.{max_result};
 
 use result_text::one_value;
 
@@ -12,8 +9,3 @@ pub fn one_file_verdict_law()
 {
     one_value();
 }
-
-/// How many octets a result file may have: 2^31.
-pub fn limits_law()
-    ensures result { max_result ≡ 2 ^ 31 }
-{}

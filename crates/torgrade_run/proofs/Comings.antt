@@ -1,79 +1,88 @@
--- The words and the files of a grading give one outcome.
-use Rattle.std.proofs.Common.{◌≡◌, ℕ, List, None, Result, Ok, Err, refl, ap, ap₂, subst, ◌∙◌}
+-- The settings and the files of a grading come to one outcome at most.
+use Rattle.std.proofs.Common.{◌≡◌, ℕ, List, Option, Some, None, Result, Ok, Err, refl, ap, ap₂, ◌∙◌}
+use Rattle.tor_arena.specs.Limits.{max_paths}
 use Rattle.tor_io.specs.Contents.{Files}
-use Rattle.dump_read.specs.Seen.{Absent, Malformed, Limit}
+use Rattle.path_clean.specs.declared.cleaned.Sets.TheVariants.{Cut}
+use Rattle.dump_read.specs.declared.taking.Taken.{Taken}
+use Rattle.dump_read.specs.Seen.{DumpsEnd}
 use Rattle.as_rel.specs.declared.line.RelLine.{RelLine}
+use Rattle.as_rel.specs.Limits.{max_rel}
 use Rattle.as_rel.specs.Serial.{rel_in}
 use Rattle.tor_words.specs.declared.grade_settings.GradeSettings.{GradeSettings}
-use Rattle.tor_words.specs.GradeGiven.{grade_settings_given}
-use Rattle.run_base.specs.declared.status.Status.{Status}
-use Rattle.run_base.specs.declared.status.Status.TheVariants as status
+use Rattle.run_base.specs.Programs.{Outcome, Makes, NoFile, TooLong, BadLine, Breaks, Lacks, Ends, OneOutcome, HasOctets}
+use Rattle.run_base.specs.Reading.{nothing, seen_from}
 use Rattle.run_base.specs.WholeFile.{IsLongFile}
 use Rattle.run_base.proofs.Values as values
-use Rattle.as_rel.specs.Limits.{max_rel}
-use Rattle.torgrade_run.specs.Outcomes.{Outcome, Reads, NoRel, LongRel, BadRel, Ends, ComesTo, Gives, IsRel, OneOutcomeLaw, seen_by}
+use Rattle.torgrade_run.specs.Grading.{Basis, GivesGrading, SaysRel, grading}
 
--- the status that an outcome asks for
-abbrev pub status_for : Outcome → Status
-status_for (Reads rel taken) = status.Done
-status_for NoRel = status.ReadFault
-status_for LongRel = status.Limit
-status_for (BadRel line) = status.Malformed
-status_for (Ends (Absent dump)) = status.ReadFault
-status_for (Ends (Malformed place fault)) = status.Malformed
-status_for (Ends (Limit kind dump)) = status.Limit
+module _ (settings : GradeSettings) (files : Files) where
+  abbrev Has : List ℕ → Type 0
+  Has bytes = HasOctets (Some files) settings.rel max_rel bytes
 
-not_there : {X : Type 0} (settings : GradeSettings) (files : Files) (bytes : List ℕ) → IsRel settings files bytes → files settings.rel ≡ None → X
-not_there settings files bytes is none = values.some_not_none (files settings.rel) bytes is.there none
+  abbrev Says : List RelLine → Type 0
+  Says rel = SaysRel settings (Some files) rel
 
-pub not_long : {X : Type 0} (settings : GradeSettings) (files : Files) (bytes : List ℕ) → IsRel settings files bytes → IsLongFile max_rel (files settings.rel) → X
-not_long settings files bytes is long = values.not_long max_rel (files settings.rel) bytes is.there is.short long
+  abbrev seen : Result Taken DumpsEnd
+  seen = seen_from Cut 1 (nothing max_paths) settings.dumps files
 
-none_long : {X : Type 0} (settings : GradeSettings) (files : Files) → files settings.rel ≡ None → IsLongFile max_rel (files settings.rel) → X
-none_long settings files is long = values.none_long max_rel (files settings.rel) is long
+  not_there : {X : Type 0} (bytes : List ℕ) → Has bytes → files settings.rel ≡ None → X
+  not_there bytes is none = values.some_not_none (files settings.rel) bytes is.there none
 
--- the bytes of the file are those of the other
-moved : (settings : GradeSettings) (files : Files) (a b : List ℕ) (r : Result (List RelLine) ℕ) → IsRel settings files a → IsRel settings files b → rel_in b ≡ r → rel_in a ≡ r
-moved settings files a b r one other is = ap rel_in (values.some_is (files settings.rel) a b one.there other.there) ∙ is
+  not_long : {X : Type 0} (bytes : List ℕ) → Has bytes → IsLongFile max_rel (files settings.rel) → X
+  not_long bytes is long = values.not_long max_rel (files settings.rel) bytes is.there is.short long
 
-same_outcome : (settings : GradeSettings) (files : Files) (x y : Outcome) → ComesTo settings files x → ComesTo settings files y → x ≡ y
-same_outcome settings files (Reads rel taken) (Reads rel' taken') one other =
-    ap₂ Reads (values.ok_is (rel_in one.0) rel rel' one.2 (moved settings files one.0 other.0 (Ok rel') one.1 other.1 other.2))
-    (values.ok_is (seen_by settings.dumps files) taken taken' one.3 other.3)
-same_outcome settings files (Reads rel taken) NoRel one other = not_there settings files one.0 one.1 other
-same_outcome settings files (Reads rel taken) LongRel one other = not_long settings files one.0 one.1 other
-same_outcome settings files (Reads rel taken) (BadRel line) one other =
-    values.ok_not_err (rel_in one.0) rel line one.2 (moved settings files one.0 other.0 (Err line) one.1 other.1 other.2)
-same_outcome settings files (Reads rel taken) (Ends end) one other = values.ok_not_err (seen_by settings.dumps files) taken end one.3 other.4
-same_outcome settings files NoRel (Reads rel taken) one other = not_there settings files other.0 other.1 one
-same_outcome settings files NoRel NoRel one other = refl
-same_outcome settings files NoRel LongRel one other = none_long settings files one other
-same_outcome settings files NoRel (BadRel line) one other = not_there settings files other.0 other.1 one
-same_outcome settings files NoRel (Ends end) one other = not_there settings files other.0 other.2 one
-same_outcome settings files LongRel (Reads rel taken) one other = not_long settings files other.0 other.1 one
-same_outcome settings files LongRel NoRel one other = none_long settings files other one
-same_outcome settings files LongRel LongRel one other = refl
-same_outcome settings files LongRel (BadRel line) one other = not_long settings files other.0 other.1 one
-same_outcome settings files LongRel (Ends end) one other = not_long settings files other.0 other.2 one
-same_outcome settings files (BadRel line) (Reads rel taken) one other =
-    values.ok_not_err (rel_in other.0) rel line other.2 (moved settings files other.0 one.0 (Err line) other.1 one.1 one.2)
-same_outcome settings files (BadRel line) NoRel one other = not_there settings files one.0 one.1 other
-same_outcome settings files (BadRel line) LongRel one other = not_long settings files one.0 one.1 other
-same_outcome settings files (BadRel line) (BadRel line') one other =
-    ap BadRel (values.err_is (rel_in one.0) line line' one.2 (moved settings files one.0 other.0 (Err line') one.1 other.1 other.2))
-same_outcome settings files (BadRel line) (Ends end) one other =
-    values.ok_not_err (rel_in other.0) other.1 line other.3 (moved settings files other.0 one.0 (Err line) other.2 one.1 one.2)
-same_outcome settings files (Ends end) (Reads rel taken) one other = values.ok_not_err (seen_by settings.dumps files) taken end other.3 one.4
-same_outcome settings files (Ends end) NoRel one other = not_there settings files one.0 one.2 other
-same_outcome settings files (Ends end) LongRel one other = not_long settings files one.0 one.2 other
-same_outcome settings files (Ends end) (BadRel line) one other =
-    values.ok_not_err (rel_in one.0) one.1 line one.3 (moved settings files one.0 other.0 (Err line) one.2 other.1 other.2)
-same_outcome settings files (Ends end) (Ends end') one other = ap Ends (values.err_is (seen_by settings.dumps files) end end' one.4 other.4)
+  none_long : {X : Type 0} → files settings.rel ≡ None → IsLongFile max_rel (files settings.rel) → X
+  none_long is long = values.none_long max_rel (files settings.rel) is long
 
-pub one_outcome : OneOutcomeLaw
-one_outcome words files x y one other =
-    let same : other.0 ≡ one.0 = values.some_is (grade_settings_given words) other.0 one.0 other.1 one.1 in
-    same_outcome one.0 files x y one.2 (subst (λ s. ComesTo s files y) same other.2)
+  -- the octets of the file are those of the other
+  moved : (a b : List ℕ) (r : Result (List RelLine) ℕ) → Has a → Has b → rel_in b ≡ r → rel_in a ≡ r
+  moved a b r one other is = ap rel_in (values.some_is (files settings.rel) a b one.there other.there) ∙ is
 
-pub one_status : (words : List (List ℕ)) (files : Files) (x y : Outcome) → Gives words files x → Gives words files y → status_for x ≡ status_for y
-one_status words files x y one other = ap status_for (one_outcome words files x y one other)
+  same_rel : (a b : List RelLine) → Says a → Says b → a ≡ b
+  same_rel a b one other = values.ok_is (rel_in one.0) a b one.2 (moved one.0 other.0 (Ok b) one.1 other.1 other.2)
+
+  not_bad : {X : Type 0} (rel : List RelLine) (line : ℕ) → Says rel → (bytes : List ℕ) × Has bytes × (rel_in bytes ≡ Err line) → X
+  not_bad rel line one other = values.ok_not_err (rel_in one.0) rel line one.2 (moved one.0 other.0 (Err line) one.1 other.1 other.2)
+
+  same : (x y : Outcome Basis) → GivesGrading settings (Some files) x → GivesGrading settings (Some files) y → x ≡ y
+  same (Makes a) (Makes b) one other =
+      ap₂ (λ rel taken. Makes (record { rel = rel; taken = taken })) (same_rel a.rel b.rel one.0 other.0) (values.ok_is seen a.taken b.taken one.1 other.1)
+  same (Makes a) NoFile one other = not_there one.0.0 one.0.1 other
+  same (Makes a) TooLong one other = not_long one.0.0 one.0.1 other
+  same (Makes a) (BadLine line) one other = not_bad a.rel line one.0 other
+  same (Makes a) (Breaks line rule) one other = absurd other
+  same (Makes a) (Lacks note) one other = absurd other
+  same (Makes a) (Ends end) one other = values.ok_not_err seen a.taken end one.1 other.2
+  same NoFile (Makes b) one other = not_there other.0.0 other.0.1 one
+  same NoFile NoFile one other = refl
+  same NoFile TooLong one other = none_long one other
+  same NoFile (BadLine line) one other = not_there other.0 other.1 one
+  same NoFile (Breaks line rule) one other = absurd other
+  same NoFile (Lacks note) one other = absurd other
+  same NoFile (Ends end) one other = not_there other.1.0 other.1.1 one
+  same TooLong (Makes b) one other = not_long other.0.0 other.0.1 one
+  same TooLong NoFile one other = none_long other one
+  same TooLong TooLong one other = refl
+  same TooLong (BadLine line) one other = not_long other.0 other.1 one
+  same TooLong (Breaks line rule) one other = absurd other
+  same TooLong (Lacks note) one other = absurd other
+  same TooLong (Ends end) one other = not_long other.1.0 other.1.1 one
+  same (BadLine line) (Makes b) one other = not_bad b.rel line other.0 one
+  same (BadLine line) NoFile one other = not_there one.0 one.1 other
+  same (BadLine line) TooLong one other = not_long one.0 one.1 other
+  same (BadLine line) (BadLine line') one other = ap BadLine (values.err_is (rel_in one.0) line line' one.2 (moved one.0 other.0 (Err line') one.1 other.1 other.2))
+  same (BadLine line) (Breaks l rule) one other = absurd other
+  same (BadLine line) (Lacks note) one other = absurd other
+  same (BadLine line) (Ends end) one other = not_bad other.0 line other.1 one
+  same (Breaks line rule) y one other = absurd one
+  same (Lacks note) y one other = absurd one
+  same (Ends end) (Makes b) one other = values.ok_not_err seen b.taken end other.1 one.2
+  same (Ends end) NoFile one other = not_there one.1.0 one.1.1 other
+  same (Ends end) TooLong one other = not_long one.1.0 one.1.1 other
+  same (Ends end) (BadLine line) one other = not_bad one.0 line one.1 other
+  same (Ends end) (Breaks line rule) one other = absurd other
+  same (Ends end) (Lacks note) one other = absurd other
+  same (Ends end) (Ends end') one other = ap Ends (values.err_is seen end end' one.2 other.2)
+
+pub one_outcome : OneOutcome grading
+one_outcome settings files x y one other = same settings files x y one other

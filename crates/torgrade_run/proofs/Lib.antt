@@ -1,8 +1,4 @@
-pub mod Always
-pub mod Bounds
+mod Stops
 pub mod Comings
 pub mod GradeLines
-pub mod Openings
-pub mod Reaching
-pub mod Ungradings
 mod Vectors

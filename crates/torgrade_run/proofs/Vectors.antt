@@ -5,7 +5,8 @@ use Rattle.path_table.specs.Rows.{Counted}
 use Rattle.as_rel.specs.declared.line.RelKind.TheVariants.{Transit, Peering}
 use Rattle.as_rel.specs.declared.line.RelLine.{RelLine}
 use Rattle.as_rel.specs.Serial.{rel_line}
-use Rattle.torgrade_run.specs.GradeAnswer.{bad_line_note, long_rel_note}
+use Rattle.run_base.specs.declared.notes.FirstFile.TheVariants.{Rel}
+use Rattle.run_base.specs.Notes.{bad_line_note, too_long_note}
 use Rattle.torgrade_run.specs.GradeText.{grades_text}
 
 abbrev known : List RelLine
@@ -20,9 +21,9 @@ worked : grades_text known paths ≡ codes "valley|1|10 20 30 40|3\nfree|1|50 10
 unfolding digits
 worked = refl
 
-bad_line : bad_line_note 2 ≡ codes "malformed|0|2|0|rel\n"
+bad_line : bad_line_note Rel 2 ≡ codes "malformed|0|2|0|rel\n"
 unfolding digits
 bad_line = refl
 
-too_long : long_rel_note ≡ codes "limit|rel|0\n"
+too_long : too_long_note Rel ≡ codes "limit|rel|0\n"
 too_long = refl

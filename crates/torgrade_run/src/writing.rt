@@ -1,4 +1,6 @@
 //! What a grading writes, a line at a time.
+//!
+//! Totals are counted while lines go out, since a second pass would grade each path twice.
 ghost use Rattle.std.specs.Prelude.{◌≡◌, ◌⊎◌, ◌++◌, OnOk, OnErr, IfOk};
 ghost use Rattle.std.specs.Io.KnownBytes.{append_known};
 ghost use Rattle.tor_io.specs.Counts.{HasCause};
@@ -7,7 +9,7 @@ ghost use Rattle.run_base.specs.Answers.{note_in};
 ghost use Rattle.run_base.specs.Frames.{RunLeavesOut};
 ghost use Rattle.run_base.specs.Notes.{plain_note};
 ghost use Rattle.torgrade_run.specs.GradeText.{grade_line, graded_lines, grades_of, grades_text, totals_of, totals_line, cone_text};
-ghost use Rattle.torgrade_run.specs.Ungrading.{text_of};
+ghost use Rattle.torgrade_run.specs.Grading.{text_of};
 
 use crate::asking::Graded;
 use crate::cones::Cone;

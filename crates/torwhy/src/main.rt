@@ -2,12 +2,12 @@
 #![tactic(auto)]
 
 use run_base::{Status, code_of_failure};
+use showing_run::why;
 use std::env;
 use std::process::ExitCode;
 use tor_arena::Keys;
 use tor_io::{FileShelf, StdSink};
 use tor_words::words_of;
-use torwhy_run::why;
 
 fn main(rt: HostRuntime) -> ExitCode {
     let args = match env::args(&rt) {

@@ -15,6 +15,8 @@ mod of_lists;
 #[cfg(test)]
 mod of_one_path;
 #[cfg(test)]
+mod of_path_order;
+#[cfg(test)]
 mod of_path_table;
 #[cfg(test)]
 mod of_tor_arena;

@@ -1,5 +1,7 @@
 //! Which edges flip together. An edge that flips gets the order that its label does not have; a
 //! peering is read as if its lower number were the provider.
+//!
+//! A given is noted as the two steps of its return, so its edge conflicts with itself, and no search has a case for givens.
 
 ghost use Rattle.std.specs.Prelude.{◌≡◌, ◌<◌, ◌≤◌, ℕ, ◌∷◌, ◌++◌, [], List as Items, length, replicate, OnOk, IfOk};
 ghost use Rattle.tor_arena.specs.Limits.{most_places};

@@ -1,4 +1,6 @@
 //! Which edges stand next to each other on kept paths and on returns of givens.
+//!
+//! Rows are made up to the last one that has an edge. Many a file has no two steps that rule each other out.
 ghost use Rattle.std.specs.Prelude.{◌≡◌, ◌⊎◌, ◌-◌, ◌<◌, ◌≤◌, ◌++◌, ◌∷◌, [], All, Some, length, replicate, slice_get, OnOk, OnErr, IfOk};
 ghost use Rattle.tor_arena.specs.Limits.{most_places};
 ghost use Rattle.line_rules.specs.Neighbours.{filled_up, with_next, EachHasRow, HasBack, IsTurned};

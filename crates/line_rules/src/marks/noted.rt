@@ -1,4 +1,7 @@
 //! Which pairs of steps were noted, by their numbers.
+//!
+//! The slots are made once and may forget, since rows in which an edge is twice say the same. A set that forgets nothing took a sixth
+//! more memory; rows that are thinned at the end took five times as long.
 ghost use Rattle.std.specs.Prelude.{◌≡◌, ◌<◌, ◌⊎◌, ℕ, length, Contains, IsFalse, IsTrue, IfOk};
 
 use std::alloc::Global;

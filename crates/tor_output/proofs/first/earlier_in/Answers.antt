@@ -1,6 +1,6 @@
 use Rattle.std.proofs.Common.{subst}
-use Rattle.torcheck_run.specs.declared.ruling.Ruling.{Ruling}
-use Rattle.torcheck_run.specs.Ruled.{IsRulingIn}
+use Rattle.result_file.specs.declared.ruling.Ruling.{Ruling}
+use Rattle.result_file.specs.Ruled.{IsRulingIn}
 use Rattle.tor_output.proofs.Unwritings.{earlier_broken, earlier_held}
 use Rattle.tor_output.proofs.first.earlier_in.Goals as goal
 

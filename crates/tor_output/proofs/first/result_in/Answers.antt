@@ -1,7 +1,7 @@
 use Rattle.std.proofs.Common.{subst}
-use Rattle.torcheck_run.specs.declared.reading.NoResult.{NoResult}
-use Rattle.torcheck_run.specs.FileText.{IsNoText}
-use Rattle.torcheck_run.specs.Limits.{max_result}
+use Rattle.result_file.specs.declared.reading.NoResult.{NoResult}
+use Rattle.result_file.specs.FileText.{IsNoText}
+use Rattle.result_file.specs.Limits.{max_result}
 use Rattle.tor_output.proofs.Unwritings.{result_bad, result_held}
 use Rattle.tor_output.proofs.first.result_in.Goals as goal
 

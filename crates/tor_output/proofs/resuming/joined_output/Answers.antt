@@ -1,21 +1,23 @@
-use Rattle.std.proofs.Common.{◌++◌, ap, ◌∙◌}
+use Rattle.std.proofs.Common.{◌++◌, ap, sym, subst, ◌∙◌}
+use Rattle.run_base.specs.declared.answer.Refusal.TheVariants as refusal
+use Rattle.tor_output.specs.Reach.{StopsDumpsInReach}
 use Rattle.tor_output.proofs.Openings.{memory_opens, read_stopped}
 use Rattle.tor_output.specs.Written.{written}
-use Rattle.tor_output.proofs.Resumings.{rows_begin, joined_made, joined_some, joined_refused, joined_reach}
+use Rattle.tor_output.proofs.Resumings.{rows_begin, joined_made, joined_some, joined_refused}
 use Rattle.tor_output.proofs.resuming.joined_output.Goals as goal
 
 pub returns-in-Ok-resumed_text-clause-output : goal.returns-in-Ok-resumed_text-clause-output
 returns-in-Ok-resumed_text-clause-output g c = λ old begun.
     let new = c.read_dumps.new.taken in
     let rows = rows_begin old c.args.settings.now.max_paths c.args.earlier.sets _ c.args.taken new begun.begun c.in-Ok.ensures.some_dumps in
-    joined_made c.args.settings.now old c.args.earlier c.args.taken c.as_slice-dumps.result.now begun c.as_slice-dumps.ensures (g.H.Shelf.files c.args.shelf.now)
+    joined_made c.args.settings.now old c.args.earlier c.args.taken c.as_slice.result.now begun (c.as_slice.ensures ∙ sym c.requires.dumps) (g.H.Shelf.files c.args.shelf.now)
     new (written c.in-Ok-resumed_text.output) c.in-Ok.ensures.read (c.in-Ok-resumed_text.ensures old begun.left rows)
 
 pub returns-in-Ok-resumed_text-clause-of_some : goal.returns-in-Ok-resumed_text-clause-of_some
 returns-in-Ok-resumed_text-clause-of_some g c = λ old begun.
     let new = c.read_dumps.new.taken in
     let rows = rows_begin old c.args.settings.now.max_paths c.args.earlier.sets _ c.args.taken new begun.begun c.in-Ok.ensures.some_dumps in
-    joined_some c.args.settings.now old c.args.earlier c.args.taken c.as_slice-dumps.result.now begun c.as_slice-dumps.ensures new
+    joined_some c.args.settings.now old c.args.earlier c.args.taken c.as_slice.result.now begun (c.as_slice.ensures ∙ sym c.requires.dumps) new
     (written c.in-Ok-resumed_text.output) c.in-Ok.ensures.some_dumps c.has_table_rows.ensures (c.in-Ok-resumed_text.ensures old begun.left rows)
 
 pub resumed_text-requires-clause-begins : goal.resumed_text-requires-clause-begins
@@ -32,23 +34,23 @@ pub returns-in-Err-clause-refused : goal.returns-in-Err-clause-refused
 returns-in-Err-clause-refused g c = λ old begun.
     let shelf = g.H.Shelf in
     let e = c.in-Err.ensures in
-    joined_refused c.args.settings.now old c.args.earlier c.args.taken c.as_slice-dumps.result.now begun c.as_slice-dumps.ensures (shelf.files c.args.shelf.now)
+    joined_refused c.args.settings.now old c.args.earlier c.args.taken c.as_slice.result.now begun (c.as_slice.ensures ∙ sym c.requires.dumps) (shelf.files c.args.shelf.now)
     (shelf.steady c.args.shelf.now) c.in-Err.stopped e.stopped e.named e.before e.steady_failed
 
 pub returns-in-Err-clause-reach : goal.returns-in-Err-clause-reach
 returns-in-Err-clause-reach g c =
     let shelf = g.H.Shelf in
     let e = c.in-Err.ensures in
-    joined_reach c.args.settings.now c.as_slice-dumps.result.now (shelf.files c.args.shelf.now) (shelf.left c.read_dumps.new.shelf) c.in-Err.stopped c.as_slice-dumps.ensures e.named e.place
-    e.bounded e.shown
+    subst (λ ds. StopsDumpsInReach ds (shelf.files c.args.shelf.now) (shelf.left c.read_dumps.new.shelf) (refusal.Dumps c.in-Err.stopped)) c.as_slice.ensures
+    (e.place, (e.named.0, e.named.1, e.bounded, e.shown))
 
 pub returns-in-Err-clause-opens_stop : goal.returns-in-Err-clause-opens_stop
 returns-in-Err-clause-opens_stop g c =
     let opens = g.H.Shelf.opens in
     let e = c.in-Err.ensures in
-    read_stopped c.args.settings.now c.as_slice-dumps.result.now (opens c.args.shelf.now) (opens c.read_dumps.new.shelf) c.in-Err.stopped c.as_slice-dumps.ensures e.named e.place e.opens_stop
+    read_stopped c.args.dumps.now c.as_slice.result.now (opens c.args.shelf.now) (opens c.read_dumps.new.shelf) c.in-Err.stopped c.as_slice.ensures e.named e.place e.opens_stop
 
 pub returns-in-Err-resumed_text-clause-opens_stop : goal.returns-in-Err-resumed_text-clause-opens_stop
 returns-in-Err-resumed_text-clause-opens_stop g c =
     let before = g.H.Shelf.opens c.args.shelf.now in
-    memory_opens c.args.settings.now.dumps before (g.H.Shelf.opens c.read_dumps.new.shelf) (c.in-Ok.ensures.opens ∙ ap (λ ds. before ++ ds) c.as_slice-dumps.ensures)
+    memory_opens c.args.dumps.now before (g.H.Shelf.opens c.read_dumps.new.shelf) (c.in-Ok.ensures.opens ∙ ap (λ ds. before ++ ds) c.as_slice.ensures)

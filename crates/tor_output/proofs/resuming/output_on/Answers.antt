@@ -4,7 +4,7 @@ use Rattle.std.proofs.lemmas.Result.{IfOk-weaker as asked_if, IfErr-weaker as re
 use Rattle.relationships.specs.declared.given.Given.{Given}
 use Rattle.rel_infer.specs.GivenInference.{max_givens}
 use Rattle.rel_infer.proofs.Acceptance.{same_givens}
-use Rattle.tor_output.proofs.Resumings.{past_calm, past_reach, past_refused}
+use Rattle.tor_output.proofs.Resumings.{joined_reach, past_calm, past_reach, past_refused}
 use Rattle.tor_output.proofs.resuming.output_on.Goals as goal
 
 pub returns-in-Err-clause-refused : goal.returns-in-Err-clause-refused
@@ -15,7 +15,7 @@ returns-in-Err-clause-refused g c =
 pub returns-in-Err-clause-reach : goal.returns-in-Err-clause-reach
 returns-in-Err-clause-reach g c =
     let shelf = g.H.Shelf in
-    past_reach c.args.settings.now c.args.earlier c.in-Err.refusal c.in-Err.ensures.refused (shelf.files c.args.shelf.now) (shelf.left c.args.shelf.now) c.requires.source c.requires.read
+    past_reach c.args.settings.now c.args.earlier c.in-Err.refusal c.in-Err.ensures.refused (shelf.files c.args.shelf.now) (shelf.left c.args.shelf.now) c.requires.resumes c.requires.read
 
 pub returns-in-Err-clause-reads_shelf : goal.returns-in-Err-clause-reads_shelf
 returns-in-Err-clause-reads_shelf g c = record {
@@ -43,4 +43,10 @@ pub returns-in-Ok-clause-refused : goal.returns-in-Ok-clause-refused
 returns-in-Ok-clause-refused g c = refused_if c.joined_output.result _ _ (λ refusal made. made c.args.earlier c.in-Ok.ensures.begun) c.joined_output.ensures.refused
 
 pub returns-in-Err-clause-opens_stop : goal.returns-in-Err-clause-opens_stop
-returns-in-Err-clause-opens_stop g c = past_opens c.args.settings.now c.in-Err.refusal (g.H.Shelf.opens c.args.shelf.now) c.in-Err.ensures.refused
+returns-in-Err-clause-opens_stop g c = past_opens c.args.dumps.now c.in-Err.refusal (g.H.Shelf.opens c.args.shelf.now) c.in-Err.ensures.refused
+
+pub returns-in-Ok-clause-reach : goal.returns-in-Ok-clause-reach
+returns-in-Ok-clause-reach g c =
+    let shelf = g.H.Shelf in
+    refused_if c.joined_output.result _ _ (λ r h.
+    joined_reach c.args.settings.now c.args.dumps.now (shelf.files c.args.shelf.now) (shelf.left c.joined_output.new.shelf) r c.requires.dumps h) c.joined_output.ensures.reach

@@ -1,6 +1,6 @@
 use Rattle.std.proofs.Common.{◌++◌}
 use Rattle.tor_io.proofs.Passing.{all_flushed, flush_stops}
-use Rattle.torgrade_run.specs.Ungrading.{text_of}
+use Rattle.torgrade_run.specs.Grading.{text_of}
 use Rattle.torgrade_run.proofs.writing.write_all_of.Goals as goal
 
 pub returns-clause-all : goal.returns-clause-all

@@ -1,0 +1,2 @@
+pub mod Lackings
+pub mod OneVerdicts

@@ -1,0 +1,2 @@
+pub mod AnyTakings
+pub mod RouteOrders

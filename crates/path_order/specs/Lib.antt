@@ -1,0 +1,4 @@
+pub mod Orders
+pub mod Laws
+pub mod Entries
+pub mod TableRows

@@ -1,0 +1,4 @@
+mod FewLines
+pub mod OneRuling
+mod Takings
+mod Vectors

@@ -1,0 +1,4 @@
+pub mod FileText
+pub mod Limits
+pub mod Ruled
+pub mod VerdictText

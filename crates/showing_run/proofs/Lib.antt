@@ -1,0 +1,5 @@
+mod Comings
+mod Showings
+mod Tellings
+mod Vectors
+mod Viewings

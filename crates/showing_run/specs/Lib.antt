@@ -1,0 +1,4 @@
+pub mod Asking
+pub mod Unmet
+pub mod Views
+pub mod Whys

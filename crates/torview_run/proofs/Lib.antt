@@ -1,2 +1,0 @@
-mod Vectors
-mod Viewings

@@ -1,6 +1,0 @@
--- An AS is there or isn't.
-use Rattle.torcheck_run.proofs.AskedComings.{NotBoth}
-use Rattle.torview_run.specs.Views.{viewing}
-
-pub not_both : NotBoth viewing
-not_both settings file text none some = none some.0

@@ -1,2 +1,0 @@
-mod Tellings
-mod Vectors

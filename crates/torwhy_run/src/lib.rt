@@ -1,8 +1,0 @@
-//! The run of `torwhy`, from the words of the command line to the status. It stands on no crate of clauses, selection or marks.
-#![tactic(auto)]
-
-mod answering;
-mod asking;
-mod writing;
-
-pub use answering::why;
