@@ -19,6 +19,8 @@ mod of_path_order;
 #[cfg(test)]
 mod of_path_table;
 #[cfg(test)]
+mod of_reach_counts;
+#[cfg(test)]
 mod of_tor_arena;
 #[cfg(test)]
 mod of_tor_digraph;
