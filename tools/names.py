@@ -13,7 +13,7 @@ import pathlib
 import re
 import sys
 
-MOST = 91
+MOST = 77
 
 # A type or function of the code, and the definition of the same name that its contract cites; and what each crate says of its own limits or
 # words.

@@ -1,10 +1,9 @@
 -- Orders that the labels have, and those that they do not have.
-use Rattle.std.proofs.Common.{◌≡◌, ◌↔◌, ℕ, ◌/◌, ◌<◌, ◌≤◌, ◌⊎◌, inl, inr, Bool, true, false, not, List, Some, length, get_or, refl, sym, ap, ◌∙◌, subst, arith, lt-ltb, le-ltb, All, IsTrue}
+use Rattle.std.proofs.Common.{◌≡◌, ◌↔◌, ℕ, ◌/◌, ◌<◌, ◌≤◌, ◌⊎◌, inl, inr, Bool, true, false, not, List, Some, length, get_or, refl, sym, ap, ◌∙◌, subst, arith, All, IsTrue}
 use Rattle.std.proofs.Common.{flat_map, Contains}
 use Rattle.std.specs.Prelude.{slice_get}
 use Rattle.std.proofs.lemmas.Bool.{cases_lt, cases_order, false≢true}
 use Rattle.std.proofs.lemmas.Option.{same_Some, get_or_from_slice_get, slice_get_within}
-use Rattle.relationships.specs.Steps.{end_left}
 use Rattle.tor_arena.proofs.Pairs.{pair_with}
 use Rattle.relationships.specs.declared.label.End.{End}
 use Rattle.relationships.specs.declared.label.Label.{Label}
@@ -21,6 +20,7 @@ use Rattle.tor_clauses.specs.Literals.{Literal, negated, node_of, lit_of, opposi
 use Rattle.tor_clauses.specs.Formulas.{Formula, FitsGraph}
 use Rattle.tor_clauses.specs.Flipping as flipping
 use Rattle.tor_clauses.specs.Flipping.{HasPartners, HoldsOne, IsKeptAlong, ReachesOff}
+use Rattle.tor_clauses.proofs.Leadings.{left_low, left_high}
 use Rattle.tor_clauses.proofs.LiteralLemmas.{lit_of_node}
 use Rattle.tor_clauses.proofs.Exacts.{only_arcs}
 use Rattle.tor_clauses.proofs.Flips.{off_of}
@@ -31,12 +31,6 @@ use Rattle.order_trials.specs.Candidates.{against}
 use Rattle.tor_digraph.proofs.Members.{Contains-one_more}
 
 -- ---- what is held is what the labels say
-
-left_low : (x y : ℕ) → x < y → end_left x y ≡ End.Low
-left_low x y lt = rw (lt-ltb x y lt)
-
-left_high : (x y : ℕ) → y ≤ x → end_left x y ≡ End.High
-left_high x y le = rw (le-ltb x y le)
 
 end_low : (e : End) → is_end e End.Low ≡ true → e ≡ End.Low
 end_low End.Low h = refl

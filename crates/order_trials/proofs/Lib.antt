@@ -5,4 +5,3 @@ pub mod Reaching
 pub mod Settlings
 pub mod Showings
 pub mod Trying
-pub mod Ways

@@ -1,6 +1,5 @@
 -- Arcs that lead from one order to another, and closures.
 use Rattle.std.proofs.Common.{◌≡◌, ℕ, ◌/◌, List, Some, sym, ap, ap₂, ◌∙◌, subst, All}
-use Rattle.std.specs.Prelude.{slice_get}
 use Rattle.relationships.specs.Graph.{Edge, edge_of, edges}
 use Rattle.relationships.specs.Evidence.{NeighboursDiffer, Closure, start, imply}
 use Rattle.tor_digraph.specs.Walks.{Reaches, here, along}
@@ -9,11 +8,7 @@ use Rattle.tor_clauses.specs.Literals.{node_of, lit_of, Says}
 use Rattle.tor_clauses.specs.Formulas.{Formula, FitsGraph}
 use Rattle.tor_clauses.proofs.Exacts.{all_arcs, only_arcs}
 use Rattle.tor_clauses.proofs.LiteralLemmas.{lit_with, node_of_lit}
-use Rattle.tor_clauses.proofs.Overs.{edges-apart, place_is, Says-one}
-
--- an edge stands at one place
-pub one_place : (graph : List (List ℕ)) (j k : ℕ) (e : Edge) → slice_get (edges graph) j ≡ Some e → slice_get (edges graph) k ≡ Some e → j ≡ k
-one_place graph j k e at there = sym (place_is (edges graph) j e (edges-apart graph) at) ∙ place_is (edges graph) k e (edges-apart graph) there
+use Rattle.tor_clauses.proofs.Overs.{one_place, Says-one}
 
 -- one node says an order
 pub same_node : (graph : List (List ℕ)) (l m x y : ℕ) → Says (edges graph) (lit_of l) x y → Says (edges graph) (lit_of m) x y → l ≡ m

@@ -18,7 +18,8 @@ use Rattle.tor_digraph.specs.declared.trail.Trail.{Trail}
 use Rattle.tor_digraph.specs.Spreading.{Stays, IsClosed}
 use Rattle.order_trials.specs.Held.{held}
 use Rattle.order_trials.specs.Posing.{Posed}
-use Rattle.order_trials.specs.Trials.{IsClash, IsPassed, ArePassed, AreAllPassed}
+use Rattle.tor_clauses.specs.Rounds.{IsClash}
+use Rattle.order_trials.specs.Trials.{IsPassed, ArePassed, AreAllPassed}
 use Rattle.order_trials.proofs.Helds.{held_one}
 use Rattle.tor_digraph.proofs.Spreadings.{stays_contained}
 use Rattle.order_trials.proofs.Showings.{near-walk}

@@ -1,5 +1,4 @@
 pub mod Candidates
-pub mod Going
 pub mod Held
 pub mod Posing
 pub mod Probing

@@ -1,13 +1,10 @@
 -- A search over orders that the labels do not have: what it has passed, and what stops it. These words are the search's own: no reader
 -- of a public clause needs them.
 use Rattle.std.specs.Prelude.{ℕ, ◌<◌, ◌≤◌, ◌⊎◌, Bool, true, false, List, length, Contains}
-use Rattle.tor_digraph.specs.Walks.{IsArc, HasArc}
+use Rattle.tor_digraph.specs.Walks.{HasArc}
 use Rattle.tor_digraph.specs.Trails.{StandsAt}
 use Rattle.tor_clauses.specs.Literals.{opposite_node}
-
--- the arc leads from one of these nodes to the opposite of one
-abbrev pub IsClash : List (ℕ × ℕ) → List ℕ → ℕ → Type 0
-IsClash arcs nodes arc = (u y : ℕ) × IsArc arcs arc u y × Contains nodes u × Contains nodes (opposite_node y)
+use Rattle.tor_clauses.specs.Rounds.{IsClash}
 
 -- the head of an arc from the node at place k is among them, or one past which the search does not go, and up to k its opposite is
 -- not among them

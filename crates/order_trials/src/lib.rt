@@ -3,7 +3,6 @@
 #![tactic(auto)]
 
 mod depth_search;
-mod going;
 mod held;
 mod probing;
 mod problem;

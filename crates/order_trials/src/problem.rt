@@ -1,32 +1,33 @@
 //! What marking is asked of.
-ghost use Rattle.std.specs.Prelude.{◌≡◌, ℕ, ◌<◌, ◌≤◌, All, Some, slice_get, length, IfOk};
+ghost use Rattle.std.specs.Prelude.{◌≡◌, ◌<◌, ◌≤◌, All, Some, slice_get, length, IfOk};
 ghost use Rattle.relationships.specs.Graph.{edges};
 ghost use Rattle.relationships.specs.Evidence.{NeighboursDiffer};
 ghost use Rattle.relationships.specs.Selection.{IsServable};
 ghost use Rattle.tor_arena.specs.Limits.{max_numbers, most_places};
 ghost use Rattle.tor_digraph.specs.Walks.{IsInside};
 ghost use Rattle.tor_digraph.specs.InRows.{IsRow};
-ghost use Rattle.tor_clauses.specs.Flipping.{HasPartners, IsPartner};
-ghost use Rattle.tor_clauses.specs.Formulas.{FitsGraph, IsLinkOfArc, demands_of};
-ghost use Rattle.tor_clauses.specs.Leading.{IsPlainWay, LeadsAlong};
+ghost use Rattle.tor_digraph.specs.Trails.{IsTrail};
+ghost use Rattle.tor_clauses.specs.Flipping.{HasPartners};
+ghost use Rattle.tor_clauses.specs.Formulas.{IsLinkOfArc, demands_of};
 ghost use Rattle.tor_clauses.specs.Literals.{lit_of, Says};
+ghost use Rattle.tor_clauses.specs.Rounds.{IsClash};
 ghost use Rattle.order_trials.specs.Posing.{AreValleyFree, IsPosed};
+ghost use Rattle.order_trials.specs.Showing.{LeadsBack};
 
 use crate::held::held_nodes;
-use as_graph::{AsGraph, Labels};
+use as_graph::Labels;
 use relationships::{Label, Link, Walk};
 use std::alloc::Global;
 use std::marker::Model;
 use tor_arena::{ArcId, EdgeId, Index, NoMemory, NodeId};
-use tor_clauses::{Clauses, order, walk_along};
-use tor_digraph::{Digraph, NodeSet, RowDigraph, Way};
+use tor_clauses::{Fitted, walk_along, way_round};
+use tor_digraph::{NodeSet, RowDigraph, Trail};
 
-/// What marking is asked of: a graph, clauses that fit it, and labels of its edges under which the paths of the clauses are
-/// valley-free. With it stand the arcs of the clauses in rows, and the nodes of the orders that the labels have.
+/// What marking is asked of: clauses that fit a graph, and labels of its edges under which the paths of the clauses are valley-free. With
+/// it stand the arcs of the clauses in rows, and the nodes of the orders that the labels have.
 #[derive(Drop)]
 pub struct Problem<'a> {
-    graph: &'a AsGraph,
-    clauses: &'a Clauses,
+    fitted: &'a Fitted<'a>,
     labels: &'a [Label],
     rows: &'a RowDigraph<'a, NodeId, ArcId>,
     held: NodeSet,
@@ -38,35 +39,32 @@ impl<'a> Model for Problem<'a> {
 
     ghost Value = { Posed };
 
-    ghost view = { λ p. record { graph = p.graph.now; formula = p.clauses.now; labels = p.labels.now; held = p.held.items } };
+    ghost view = { λ p. record { graph = p.fitted.now.graph; formula = p.fitted.now.formula; labels = p.labels.now; held = p.held.items } };
 
-    ghost invariant = { λ p. IsPosed (record { graph = p.graph.now; formula = p.clauses.now; labels = p.labels.now; held = p.held.items }) ×
-        (p.rows.now ≡ p.clauses.now.net) × (p.held.count ≡ p.clauses.now.net.nodes) };
+    ghost invariant = { λ p. IsPosed (record { graph = p.fitted.now.graph; formula = p.fitted.now.formula; labels = p.labels.now; held = p.held.items }) ×
+        (p.rows.now ≡ p.fitted.now.formula.net) × (p.held.count ≡ p.fitted.now.formula.net.nodes) };
 }
 
 impl<'a> Problem<'a> {
     /// The problem of these clauses, whose arcs stand in these rows, and labels. The only error is that memory ran out.
     pub fn new(
         alloc: Global,
-        graph: &'a AsGraph,
-        clauses: &'a Clauses,
+        fitted: &'a Fitted<'a>,
         rows: &'a RowDigraph<'a, NodeId, ArcId>,
         labels: &'a Labels,
     ) -> Result<Problem<'a>, NoMemory>
-        requires fits { FitsGraph graph.now clauses.now }
-        requires rows { rows.now ≡ clauses.now.net }
-        requires labels { length labels.now ≡ length (edges graph.now) }
-        requires served { AreValleyFree graph.now clauses.now labels.now }
-        ensures graph { IfOk result (λ problem. problem.graph ≡ graph.now) }
-        ensures formula { IfOk result (λ problem. problem.formula ≡ clauses.now) }
+        requires rows { rows.now ≡ fitted.now.formula.net }
+        requires labels { length labels.now ≡ length (edges fitted.now.graph) }
+        requires served { AreValleyFree fitted.now.graph fitted.now.formula labels.now }
+        ensures graph { IfOk result (λ problem. problem.graph ≡ fitted.now.graph) }
+        ensures formula { IfOk result (λ problem. problem.formula ≡ fitted.now.formula) }
         ensures labels { IfOk result (λ problem. problem.labels ≡ labels.now) }
     {
-        graph.facts();
+        fitted.facts();
         let labels = labels.as_slice();
         let held = held_nodes(alloc, labels)?;
         Ok(Problem {
-            graph,
-            clauses,
+            fitted,
             labels,
             rows,
             held,
@@ -82,19 +80,10 @@ impl<'a> Problem<'a> {
         ensures inside { IsInside (λ n. n) self.now.formula.net }
         ensures servable { IsServable (demands_of self.now.graph self.now.formula) }
     {
-        self.graph.facts();
-        self.clauses.facts();
-        let _ = self.rows.node_count();
+        self.fitted.facts();
     }
 
-    /// The digraph of the clauses. It takes no memory.
-    pub(crate) fn digraph(&self) -> &Digraph<NodeId, ArcId>
-        ensures { result.now ≡ self.now.formula.net }
-    {
-        self.clauses.digraph()
-    }
-
-    /// The same digraph, with its arcs in rows. It takes no memory.
+    /// The digraph of the clauses, with its arcs in rows. It takes no memory.
     pub fn rows(&self) -> &RowDigraph<'a, NodeId, ArcId>
         ensures { result.now ≡ self.now.formula.net }
     {
@@ -121,7 +110,7 @@ impl<'a> Problem<'a> {
     pub fn edge_count(&self) -> usize
         ensures { result ≡ length (edges self.now.graph) }
     {
-        self.graph.edge_count()
+        self.fitted.edge_count()
     }
 
     /// The arcs that leave a node, each with its head. It takes no memory.
@@ -145,7 +134,7 @@ impl<'a> Problem<'a> {
         requires { (lit_of node).edge < length (edges self.now.graph) }
         ensures { Says (edges self.now.graph) (lit_of node) result.0 result.1 }
     {
-        order(self.graph, node)
+        self.fitted.order(node)
     }
 
     /// The path and the place of the triple of an arc. It takes no memory.
@@ -153,29 +142,28 @@ impl<'a> Problem<'a> {
         requires { arc < length self.now.formula.net.arcs }
         ensures { IsLinkOfArc self.now.formula arc result }
     {
-        self.clauses.link_of(arc)
+        self.fitted.link_of(arc)
     }
 
-    /// The partner of an arc, between the opposites of its ends. It takes no memory.
-    pub(crate) fn partner(&self, arc: ArcId) -> ArcId
-        requires { arc < length self.now.formula.net.arcs }
-        ensures there { result < length self.now.formula.net.arcs }
-        ensures partner { IsPartner self.now.formula.net.arcs arc result }
-    {
-        self.clauses.partner(arc)
-    }
-
-    /// A walk from the order of the node at which a way begins to that of its last node. The only error is that memory ran out.
-    pub(crate) fn walk_along(
+    /// A walk from the order of a node to its opposite, where a search from it has come to an arc that clashes: out to the opposite of the
+    /// arc's head, along its partner, and home from the opposite of its tail. Of this way and the one the other way round this is the one
+    /// that leaves the search earlier. The only error is that memory ran out.
+    pub(crate) fn walk_back(
         &self,
         alloc: Global,
-        start: NodeId,
-        way: &Way<NodeId, ArcId>,
+        node: NodeId,
+        trail: &Trail,
+        clash: ArcId,
     ) -> Result<Walk, NoMemory>
-        requires there { start < self.now.formula.net.nodes }
-        requires way { (to : ℕ) × IsPlainWay self.now.formula.net.arcs start to way.now.nodes way.now.arcs }
-        ensures { IfOk result (LeadsAlong self.now.graph self.now.formula start way.now.nodes way.now.arcs) }
+        requires there { node < self.now.formula.net.nodes }
+        requires trail { IsTrail self.now.formula.net.arcs node trail.now }
+        requires clash { IsClash self.now.formula.net.arcs trail.now.nodes.items clash }
+        ensures { IfOk result (LeadsBack self.now node) }
     {
-        walk_along(alloc, self.graph, self.clauses, start, way)
+        let partner = self.fitted.partner(clash);
+        let way = way_round(alloc, self.fitted, node, trail, partner)?;
+        let walk = walk_along(alloc, self.fitted, node, &way);
+        drop(way);
+        walk
     }
 }

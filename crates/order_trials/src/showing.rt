@@ -7,10 +7,9 @@ ghost use Rattle.tor_digraph.specs.Walks.{HasArc, Reaches};
 ghost use Rattle.tor_clauses.specs.Literals.{lit_of, opposite_node};
 ghost use Rattle.tor_digraph.specs.Spreading.{Stays};
 ghost use Rattle.tor_digraph.specs.Trails.{IsTrail};
-ghost use Rattle.order_trials.specs.Trials.{IsClash};
+ghost use Rattle.tor_clauses.specs.Rounds.{IsClash};
 ghost use Rattle.order_trials.specs.Showing.{IsFullyShown, IsShowing, AreClosedTo, StayShown, LeadsBack, LeadsAlongArc, IsTail};
 
-use crate::going::way_round;
 use crate::problem::Problem;
 use relationships::{Walk, Walks};
 use std::alloc::Global;
@@ -143,7 +142,7 @@ impl Shown {
         ensures keeps { OnOk result (StayShown self.old self.new) }
         ensures added { OnOk result (Contains self.new.nodes.items (opposite_node node)) }
     {
-        let walk = walk_back(alloc, problem, node, trial, clash)?;
+        let walk = problem.walk_back(alloc, node, trial, clash)?;
         let done = self.show_by(problem, node, &walk);
         drop(walk);
         done
@@ -165,23 +164,4 @@ fn push_walk(
     problem.facts();
     let (_, under) = problem.order(head);
     whys.push(&[tail.0, tail.1, under], &[problem.link_of(arc)])
-}
-
-/// A walk from the order of a node to its opposite, where a search from it has come to an arc that clashes.
-fn walk_back(
-    alloc: Global,
-    problem: &Problem<'_>,
-    node: NodeId,
-    trial: &Trail,
-    clash: ArcId,
-) -> Result<Walk, NoMemory>
-    requires there { node < problem.now.formula.net.nodes }
-    requires trial { IsTrail problem.now.formula.net.arcs node trial.now }
-    requires clash { IsClash problem.now.formula.net.arcs trial.now.nodes.items clash }
-    ensures { IfOk result (LeadsBack problem.now node) }
-{
-    let way = way_round(alloc, problem, node, trial, clash)?;
-    let walk = problem.walk_along(alloc, node, &way);
-    drop(way);
-    walk
 }

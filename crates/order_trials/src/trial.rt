@@ -5,7 +5,8 @@
 ghost use Rattle.std.specs.Prelude.{◌≡◌, ◌+◌, ◌<◌, length, OnOk, IfOk, IfSome, IfNone};
 ghost use Rattle.tor_digraph.specs.Spreading.{Stays};
 ghost use Rattle.tor_digraph.specs.Trails.{IsTrail, IsHeadFrom, StaysTrail};
-ghost use Rattle.order_trials.specs.Trials.{IsClash, LooksAt, ArePassed, AreAllPassed};
+ghost use Rattle.tor_clauses.specs.Rounds.{IsClash};
+ghost use Rattle.order_trials.specs.Trials.{LooksAt, ArePassed, AreAllPassed};
 
 use crate::problem::Problem;
 use tor_arena::{ArcId, NoMemory, NodeId};

@@ -14,7 +14,7 @@ use Rattle.tor_arena.proofs.Gets.{slice_get-push_old, slice_get-push_last}
 use Rattle.as_graph.specs.Paths.{path_at, paths_at}
 use Rattle.tor_clauses.specs.declared.triple.Triple.{Triple}
 use Rattle.tor_clauses.specs.Literals.{Literal, negated, node_of, lit_of, opposite_node, Says}
-use Rattle.tor_clauses.specs.Triples.{triples_from, triples_along, triples_on, triples_of, distinct_triples, is_same_triple}
+use Rattle.tor_clauses.specs.Triples.{triples_on, triples_of, distinct_triples, is_same_triple}
 use Rattle.std.specs.List.{list_any}
 use Rattle.std.proofs.lemmas.Option.{slice_get_within}
 use Rattle.tor_clauses.specs.Tables.{with_triple, with_triples}
@@ -24,35 +24,11 @@ use Rattle.tor_clauses.proofs.Members.{In}
 use Rattle.tor_clauses.proofs.LiteralLemmas.{lit_of_node}
 use Rattle.tor_clauses.proofs.Sames.{with_triples-distinct, triples-more}
 use Rattle.tor_clauses.proofs.Arcs.{length-arcs, triple_at}
-use Rattle.tor_clauses.proofs.Standings.{Stands, says_first, says_second}
+use Rattle.tor_clauses.proofs.Standings.{Stands, stands_along, says_first, says_second}
 use Rattle.path_offer.specs.Repairs.{IsRepaired}
 use Rattle.path_offer.specs.Choices.{IsEdgeOn, ChangesFrom}
 use Rattle.tor_clauses.proofs.Sides.{edge_opposite}
-use Rattle.tor_mend.proofs.Ways.{some_same}
-
--- ---- where triples stand
-
-stands_from : (es : List Edge) (path : ℕ) (before : List ℕ) (at x y : ℕ) (rest : List ℕ) (t : Triple) → at ≡ length before + 2 →
-    In t (triples_from es path at x y rest) → Stands es path (before ++ (x ∷ y ∷ rest)) t
-stands_from es path before at x y [] t e h = absurd h
-stands_from es path before at x y (z ∷ rest) t e (inl h) = subst (Stands es path (before ++ (x ∷ y ∷ z ∷ rest))) h (record {
-  x = x;
-  y = y;
-  z = z;
-  stand = record { before = before; after = rest; whole = refl; place = e };
-  named = refl;
-  first = refl;
-  second = refl;
-})
-stands_from es path before at x y (z ∷ rest) t e (inr h) =
-    let l : length (before ++ (x ∷ [])) ≡ length before + 1 = length_push before x in
-    subst (λ p. Stands es path p t) (append_assoc before (x ∷ []) (y ∷ z ∷ rest))
-    (stands_from es path (before ++ (x ∷ [])) (at + 1) y z rest t (omega (arith, e, l)) h)
-
-stands_along : (es : List Edge) (path : ℕ) (p : List ℕ) (t : Triple) → In t (triples_along es path p) → Stands es path p t
-stands_along es path [] t h = absurd h
-stands_along es path (x ∷ []) t h = absurd h
-stands_along es path (x ∷ y ∷ rest) t h = stands_from es path [] 2 x y rest t refl h
+use Rattle.tor_clauses.proofs.Ways.{some_same}
 
 -- ---- the triples that a path adds
 

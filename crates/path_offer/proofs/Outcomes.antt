@@ -1,6 +1,6 @@
 -- What a selector keeps true, when a path is kept and when it is lost.
 use Rattle.std.proofs.Common.{◌≡◌, ℕ, ◌*◌, List, [], length, flat_map, sym, ap, ◌∙◌, subst, arith}
-use Rattle.std.specs.Prelude.{slice_get, Result, Ok, Err, IsErr, OnOk, OnErr}
+use Rattle.std.specs.Prelude.{slice_get, Result, Ok, Err, OnErr}
 use Rattle.relationships.specs.declared.label.End.{End}
 use Rattle.tor_clauses.specs.Triples.{arcs_of}
 use Rattle.tor_clauses.specs.Formulas.{Formula, IsModel, first_of, mark_of}
@@ -8,19 +8,14 @@ use Rattle.tor_clauses.proofs.Arcs.{length-arcs}
 use Rattle.tor_clauses.specs.declared.clauses.ClauseMark.{ClauseMark}
 use Rattle.tor_mend.specs.declared.mending.State.{State}
 use Rattle.tor_mend.specs.declared.flipping.Flip.{Flip}
-use Rattle.tor_mend.specs.Trails.{IsMarked}
 use Rattle.tor_mend.specs.Mends.{IsState, AreInside, flipped_back}
 use Rattle.path_offer.specs.Repairs.{AreMet}
-use Rattle.tor_mend.specs.Rounds.{AreKnown}
+use Rattle.tor_mend.specs.Ways.{AreKnown}
 use Rattle.path_offer.specs.Inside.{IsKeeping}
 use Rattle.path_offer.proofs.Keepings.{met_all}
 use Rattle.tor_mend.proofs.Knowing.{known_kept, known_cut}
 
 -- of an error
-pub not_ok : {T E : Type 0} (r : Result T E) (P : Type 0) → IsErr r → OnOk r P
-not_ok (Ok x) P is = absurd (let bad = is in cc)
-not_ok (Err e) P is = tt
-
 pub at_error : {T E : Type 0} (r : Result T E) (P : Type 0) → P → OnErr r P
 at_error (Ok x) P p = tt
 at_error (Err e) P p = p
@@ -53,7 +48,7 @@ module _ (f g : Formula) (mark : ClauseMark) (prefix : first_of g mark ≡ f) (s
       subst (λ h. IsKeeping h (record { ends = ends; trail = s.trail; flips = flips; known = s.known })) (sym cut) (record {
         state = record {
           ends = omega (arith, many, old_many);
-          trail = subst (λ n. IsMarked n s.trail.nodes) nodes state.trail;
+          trail = state.trail ∙ nodes;
           flips = none_inside (length ends) flips none;
         };
         model = subst (IsModel f) (sym same) keeping.model;

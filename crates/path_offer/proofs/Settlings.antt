@@ -9,19 +9,15 @@ use Rattle.path_offer.specs.Repairs.{IsTouched, IsArcMended, IsRepaired}
 use Rattle.tor_clauses.specs.declared.triple.Triple.{Triple}
 use Rattle.tor_clauses.specs.Triples.{arcs_of}
 use Rattle.tor_clauses.proofs.LiteralLemmas.{opposite_node_twice}
-use Rattle.tor_clauses.proofs.Sides.{edge_opposite, holds_one, holds_either, holds_or_not}
+use Rattle.tor_clauses.proofs.Sides.{holds_one, holds_either, holds_or_not}
 use Rattle.tor_clauses.proofs.Arcs.{next_arc}
-use Rattle.tor_mend.proofs.Ways.{some_same}
+use Rattle.tor_clauses.proofs.Ways.{some_same}
 
 tails : (e f : ℕ × ℕ) → Some e ≡ Some f → e.0 ≡ f.0
 tails e f same = ap (λ (p : ℕ × ℕ). p.0) (some_same same)
 
 heads : (e f : ℕ × ℕ) → Some e ≡ Some f → e.1 ≡ f.1
 heads e f same = ap (λ (p : ℕ × ℕ). p.1) (some_same same)
-
--- two nodes for each edge
-pub opposite_below : (x edges nodes : ℕ) → edges * 2 ≡ nodes → x < nodes → opposite_node x < nodes
-opposite_below x edges nodes twice lt = let same = edge_opposite x in omega (arith, same, twice, lt)
 
 module _ (arcs : List (ℕ × ℕ)) (old new : List End) (arc l m : ℕ) (is : IsArc arcs arc l m) where
   -- the arc is met by every change if it is met for its two ends

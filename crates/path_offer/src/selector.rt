@@ -19,8 +19,8 @@ use relationships::{Fate, Fates, Link, Walk, refuting_law};
 use std::alloc::Global;
 use std::marker::Model;
 use tor_arena::{Index, Keys, List, NoMemory, PathId};
-use tor_clauses::{Clauses, model_law};
-use tor_mend::{Known, Problem, Refusals, State, at_rest, flip_back, start, walk_again};
+use tor_clauses::{Clauses, Fitted, model_law};
+use tor_mend::{Known, Refusals, State, at_rest, flip_back, start, walk_again};
 
 /// The paths that are kept so far, in the order in which they were offered, their clauses, and an orientation that serves them. It is
 /// seen as these clauses, whose paths are the kept ones, and this orientation.
@@ -195,8 +195,8 @@ impl Selector {
         self.clauses.facts();
         let mark = self.clauses.mark();
         self.clauses.add_path(graph, path, Some(known))?;
-        let problem = Problem::new(graph, &self.clauses, mark.triples);
-        match repair(alloc, &problem, &mut self.state) {
+        let fitted = Fitted::new(graph, &self.clauses);
+        match repair(alloc, &fitted, mark.triples, &mut self.state) {
             Ok(None) => {
                 self.state.flips.clear();
                 Ok(Fate::Kept)
@@ -240,6 +240,14 @@ impl Selector {
     {
         model_law();
         self.clauses.paths()
+    }
+
+    /// The clauses of the kept paths with the graph that they fit. It takes no memory.
+    pub fn fitted<'a>(&'a self, graph: &'a AsGraph) -> Fitted<'a>
+        requires { FitsGraph graph.now self.now.formula }
+        ensures { result ≡ record { graph = graph.now; formula = self.now.formula } }
+    {
+        Fitted::new(graph, &self.clauses)
     }
 
     /// The clauses of the kept paths: their triples and no others. It takes no memory.

@@ -61,7 +61,7 @@ fn marks_of(
     ensures marks { IfOk result (AreExact graph.now selector.now.formula labels.now) }
     ensures evidence { IfOk result (AreBorneOut graph.now selector.now.formula labels.now) }
 {
-    forced_in(alloc, graph, selector.clauses(), &rows, labels)
+    forced_in(alloc, &selector.fitted(graph), &rows, labels)
 }
 
 /// What is found of the edges of a graph, where the paths that the selector has kept are kept, and `counted` of them vote and are

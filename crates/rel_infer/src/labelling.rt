@@ -62,13 +62,7 @@ pub(crate) fn labels_of(
     graph.facts();
     let kept = selector.kept();
     let voted = preferences_with_supports(alloc, graph, counted)?;
-    let ends = orient_in(
-        alloc,
-        graph,
-        selector.clauses(),
-        rows,
-        voted.prefs.as_slice(),
-    )?;
+    let ends = orient_in(alloc, &selector.fitted(graph), rows, voted.prefs.as_slice())?;
     let labels = relabel(alloc, graph, kept, &ends, ratio)?;
     Ok(Labelled {
         labels,

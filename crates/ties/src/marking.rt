@@ -2,16 +2,16 @@
 ghost use Rattle.std.specs.Prelude.{◌≡◌, length, map, IfOk};
 ghost use Rattle.relationships.specs.Relationship.{label_of};
 ghost use Rattle.relationships.specs.Graph.{edges};
-ghost use Rattle.tor_clauses.specs.Formulas.{FitsGraph, demands_of, MeetsDemands};
+ghost use Rattle.tor_clauses.specs.Formulas.{demands_of, MeetsDemands};
 ghost use Rattle.ties.specs.Tied.{AreMarks};
 
 use crate::laws::marks_law;
-use as_graph::{AsGraph, Labels, Orientation};
+use as_graph::{Labels, Orientation};
 use forced_edges::forced;
 use relationships::{End, Label, Mark};
 use std::alloc::Global;
 use tor_arena::{List, NoMemory};
-use tor_clauses::Clauses;
+use tor_clauses::Fitted;
 
 /// The label that has this provider.
 fn label_by(end: End) -> Label
@@ -39,17 +39,16 @@ fn labels_by(alloc: Global, ends: &[End]) -> Result<Labels, NoMemory>
 /// without a search.
 pub(crate) fn marks_of(
     alloc: Global,
-    graph: &AsGraph,
-    clauses: &Clauses,
+    fitted: &Fitted<'_>,
     orientation: &Orientation,
 ) -> Result<List<Mark>, NoMemory>
-    requires fits { FitsGraph graph.now clauses.now }
-    requires many { length orientation.now ≡ length (edges graph.now) }
-    requires served { MeetsDemands graph.now clauses.now orientation.now }
-    ensures { IfOk result (AreMarks (demands_of graph.now clauses.now) (edges graph.now)) }
+    requires many { length orientation.now ≡ length (edges fitted.now.graph) }
+    requires served { MeetsDemands fitted.now.graph fitted.now.formula orientation.now }
+    ensures { IfOk result (AreMarks (demands_of fitted.now.graph fitted.now.formula) (edges fitted.now.graph)) }
 {
+    fitted.facts();
     marks_law();
     let labels = labels_by(alloc, orientation.as_slice())?;
-    let found = forced(alloc, graph, clauses, &labels)?;
+    let found = forced(alloc, fitted, &labels)?;
     Ok(found.marks)
 }

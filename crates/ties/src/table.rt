@@ -28,8 +28,9 @@ fn ties_in(alloc: Global, graph: &AsGraph, selector: &Selector) -> Result<List<T
     ensures inside { IfOk result (λ ts. All (λ t. t.edge < length (edges graph.now)) ts) }
 {
     graph.facts();
-    let marks = marks_of(alloc, graph, selector.clauses(), selector.orientation())?;
-    ties(alloc, graph, selector.clauses(), marks.as_slice())
+    let fitted = selector.fitted(graph);
+    let marks = marks_of(alloc, &fitted, selector.orientation())?;
+    ties(alloc, &fitted, marks.as_slice())
 }
 
 // The ties of the first paths of a graph, so many, where those at the places `first` are kept first.

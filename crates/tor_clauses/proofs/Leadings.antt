@@ -45,10 +45,10 @@ refutes A w x y two h flips = record { x = x; y = y; two = two; walk = h.walk; b
 
 -- ---- along arcs
 
-left_low : (x y : ℕ) → x < y → end_left x y ≡ End.Low
+pub left_low : (x y : ℕ) → x < y → end_left x y ≡ End.Low
 left_low x y lt = rw (lt-ltb x y lt)
 
-left_high : (x y : ℕ) → y ≤ x → end_left x y ≡ End.High
+pub left_high : (x y : ℕ) → y ≤ x → end_left x y ≡ End.High
 left_high x y le = rw (le-ltb x y le)
 
 -- a literal says one order

@@ -77,6 +77,10 @@ place_is (f ∷ es) (suc k) e a h =
     other (inl t) = absurd (false≢true (sym (a.0 e (get-In es k e h)) ∙ edge_reversed e f t))
     other (inr n) = n
 
+-- an edge stands at one place
+pub one_place : (graph : List (List ℕ)) (j k : ℕ) (e : Edge) → slice_get (edges graph) j ≡ Some e → slice_get (edges graph) k ≡ Some e → j ≡ k
+one_place graph j k e at there = sym (place_is (edges graph) j e (edges-apart graph) at) ∙ place_is (edges graph) k e (edges-apart graph) there
+
 -- ---- the two orders
 
 pub end_reversed : (x y : ℕ) → x ≢ y → end_left y x ≡ opposite (end_left x y)

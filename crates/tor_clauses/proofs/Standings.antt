@@ -47,7 +47,7 @@ stands_from es path before at x y (z ∷ rest) t e (inr h) =
     subst (λ p. Stands es path p t) (append_assoc before (x ∷ []) (y ∷ z ∷ rest))
     (stands_from es path (before ++ (x ∷ [])) (at + 1) y z rest t (omega (arith, e, l)) h)
 
-stands_along : (es : List Edge) (path : ℕ) (p : List ℕ) (t : Triple) → In t (triples_along es path p) → Stands es path p t
+pub stands_along : (es : List Edge) (path : ℕ) (p : List ℕ) (t : Triple) → In t (triples_along es path p) → Stands es path p t
 stands_along es path [] t h = absurd h
 stands_along es path (x ∷ []) t h = absurd h
 stands_along es path (x ∷ y ∷ rest) t h = stands_from es path [] 2 x y rest t refl h

@@ -20,6 +20,11 @@ pub record Formula : Type 0 where
   pub triples : List Triple
   pub net : Net ℕ
 
+-- a graph, and clauses of its paths
+pub record Fit : Type 0 where
+  pub graph : List (List ℕ)
+  pub formula : Formula
+
 -- the formula is that of its paths in the graph
 pub record FitsGraph (graph : List (List ℕ)) (f : Formula) : Type 0 where
   pub there : All (λ path. path < length graph) f.paths

@@ -4,16 +4,17 @@ use Rattle.std.specs.Prelude.{slice_get}
 use Rattle.std.proofs.lemmas.Bool.{cases_eq, cases_lt}
 use Rattle.std.proofs.lemmas.Option.{slice_get_within}
 use Rattle.relationships.specs.declared.label.End.{End}
-use Rattle.tor_digraph.specs.Walks.{HasArc, Reaches, here, along}
+use Rattle.tor_digraph.specs.Walks.{HasArc}
 use Rattle.tor_clauses.specs.Literals.{lit_of, opposite_node, Holds}
 use Rattle.tor_clauses.proofs.LiteralLemmas.{opposite_node_twice}
-use Rattle.tor_mend.specs.declared.trail.Trail.{Trail}
-use Rattle.tor_mend.specs.Trails.{StandsAt, IsVisited, IsTrail, ArePassed}
+use Rattle.tor_digraph.specs.declared.trail.Trail.{Trail}
+use Rattle.tor_digraph.specs.Trails.{StandsAt, IsTrail}
+use Rattle.tor_mend.specs.Searches.{IsVisited, AreUnheld, ArePassed}
 use Rattle.tor_clauses.specs.Flipping.{IsCut, IsAgreed, HasPartners}
 use Rattle.tor_mend.specs.Mends.{IsMended}
 use Rattle.tor_clauses.proofs.Sides.{holds_one, holds_either}
 use Rattle.tor_clauses.proofs.Repairs.{met_after, untouched}
-use Rattle.tor_mend.proofs.Ways.{some_same}
+use Rattle.tor_clauses.proofs.Ways.{some_same}
 
 pub visited_or_not : (nodes : List ℕ) (x : ℕ) → IsVisited nodes x ⊎ (IsVisited nodes x → ⊥)
 visited_or_not [] x = inr (λ h. let bad = h.1 in cc)
@@ -29,21 +30,7 @@ visited_or_not (y ∷ nodes) x = elim (cases_eq y x) [
     behind zero at other none = other (some_same at)
     behind (suc k) at other none = none (k, at)
 
-module _ (arcs : List (ℕ × ℕ)) (ends : List End) (trail : Trail) (is : IsTrail arcs ends trail) where
-  -- what was visited is reached from the first visit
-  reached_from : (start : ℕ) → StandsAt trail.nodes.items 0 start → (n k x : ℕ) → k < n → StandsAt trail.nodes.items k x → Reaches arcs start x
-  reached_from start first zero k x lt at = absurd (omega (arith, lt))
-  reached_from start first (suc n) k x lt at = elim (is.found k x at) [
-    | inl none ↦ (
-        let same : start ≡ x = some_same (sym first ∙ ap (slice_get trail.nodes.items) (sym none) ∙ at) in
-        subst (Reaches arcs start) same here
-        )
-    | inr f ↦ (let less = f.before in along (reached_from start first n f.origin.place f.tail (omega (arith, lt, less)) f.there) (f.origin.arc, f.arc))
-  ]
-
-  pub visited_reached : (start : ℕ) → StandsAt trail.nodes.items 0 start → (x : ℕ) → IsVisited trail.nodes.items x → Reaches arcs start x
-  visited_reached start first x h = reached_from start first (suc h.0) h.0 x (omega arith) h.1
-
+module _ (arcs : List (ℕ × ℕ)) (ends : List End) (start : ℕ) (trail : Trail) (is : IsTrail arcs start trail) (unheld : AreUnheld ends trail.nodes.items) where
   module _ (partners : HasPartners arcs) (inside : (k x : ℕ) → StandsAt trail.nodes.items k x → x < length ends * 2)
       (passed : ArePassed arcs ends trail.nodes.items (length trail.nodes.items)) where
     at_place : (k x y : ℕ) → StandsAt trail.nodes.items k x → HasArc arcs x y →
@@ -56,8 +43,8 @@ module _ (arcs : List (ℕ × ℕ)) (ends : List End) (trail : Trail) (is : IsTr
       | inl h ↦ (
           let below = inside k x s in
           elim (holds_either ends x (omega (arith, below))) [
-            | inl one ↦ is.unheld k x s one
-            | inr other ↦ is.unheld h.0 (opposite_node x) h.1 other
+            | inl one ↦ unheld k x s one
+            | inr other ↦ unheld h.0 (opposite_node x) h.1 other
           ]
           )
       | inr h ↦ h.1 k (omega (arith, lt)) (subst (StandsAt trail.nodes.items k) (sym (opposite_node_twice x)) s)
@@ -65,7 +52,7 @@ module _ (arcs : List (ℕ × ℕ)) (ends : List End) (trail : Trail) (is : IsTr
 
     pub visited_cut : IsCut arcs ends (IsVisited trail.nodes.items)
     visited_cut = record {
-      unheld = λ x h holds. is.unheld h.0 x h.1 holds;
+      unheld = λ x h holds. unheld h.0 x h.1 holds;
       closed = λ x y h arc. elim (at_place h.0 x y h.1 arc) [
         | inl v ↦ inl v
         | inr p ↦ inr (
@@ -78,17 +65,17 @@ module _ (arcs : List (ℕ × ℕ)) (ends : List End) (trail : Trail) (is : IsTr
       ];
     }
 
-    pub mended : (start : ℕ) (new : List End) → StandsAt trail.nodes.items 0 start → IsAgreed ends new (IsVisited trail.nodes.items) → IsMended arcs ends new start
-    mended start new first agreed = record {
+    pub mended : (new : List End) → IsAgreed ends new (IsVisited trail.nodes.items) → IsMended arcs ends new start
+    mended new agreed = record {
       met = λ l m arc h. met_after arcs ends new (IsVisited trail.nodes.items) (visited_or_not trail.nodes.items) partners visited_cut agreed l m arc (elim h [
         | inl met ↦ inl met
         | inr at ↦ inr (elim at [
-          | inl e ↦ inl (0, subst (StandsAt trail.nodes.items 0) (sym e) first)
-          | inr e ↦ inr (0, subst (StandsAt trail.nodes.items 0) (sym e) first)
+          | inl e ↦ inl (0, subst (StandsAt trail.nodes.items 0) (sym e) is.first)
+          | inr e ↦ inr (0, subst (StandsAt trail.nodes.items 0) (sym e) is.first)
         ])
       ]);
       changed = λ x holds not. elim (visited_or_not trail.nodes.items x) [
-        | inl h ↦ visited_reached start first x h
+        | inl h ↦ is.reached h.0 x h.1
         | inr none ↦ elim (visited_or_not trail.nodes.items (opposite_node x)) [
           | inl h ↦ absurd (holds_one new x holds (agreed.held (opposite_node x) h))
           | inr no_other ↦ absurd (not (sym (untouched arcs ends new (IsVisited trail.nodes.items) partners visited_cut agreed x none no_other) ∙ holds))

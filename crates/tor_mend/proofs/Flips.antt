@@ -8,11 +8,12 @@ use Rattle.tor_arena.proofs.Gets.{slice_get-push_old, slice_get-push_cases, slic
 use Rattle.as_graph.specs.EdgeSteps.{end_of}
 use Rattle.tor_clauses.specs.Literals.{lit_of, Holds}
 use Rattle.tor_mend.specs.declared.flipping.Flip.{Flip}
-use Rattle.tor_mend.specs.Trails.{StandsAt, IsVisited}
+use Rattle.tor_digraph.specs.Trails.{StandsAt}
+use Rattle.tor_mend.specs.Searches.{IsVisited, AreUnheld}
 use Rattle.tor_clauses.specs.Flipping.{IsAgreed}
 use Rattle.tor_mend.specs.Mends.{flipped_back, AreInside}
 use Rattle.tor_clauses.proofs.Sides.{same_edge, holds_either}
-use Rattle.tor_mend.proofs.Ways.{some_same}
+use Rattle.tor_clauses.proofs.Ways.{some_same}
 
 -- ---- going back
 
@@ -56,29 +57,25 @@ pub record IsFlipped (old new : List End) (visited : List ℕ) (count : ℕ) : T
   pub held : (k x : ℕ) → k < count → StandsAt visited k x → Holds new (lit_of x)
   pub other : (e : ℕ) → ((k x : ℕ) → k < count → StandsAt visited k x → x / 2 ≢ e) → slice_get new e ≡ slice_get old e
 
-module _ (old : List End) (visited : List ℕ) (inside : (k x : ℕ) → StandsAt visited k x → x < length old * 2)
-    (unheld : (k x : ℕ) → StandsAt visited k x → Holds old (lit_of x) → ⊥) where
-  pub flipped_begun : IsFlipped old old visited 0
-  flipped_begun = record { held = λ k x lt at. absurd (omega (arith, lt)); other = λ e apart. refl }
+pub flipped_begun : (old : List End) (visited : List ℕ) → IsFlipped old old visited 0
+flipped_begun old visited = record { held = λ k x lt at. absurd (omega (arith, lt)); other = λ e apart. refl }
 
+module _ (old : List End) (visited : List ℕ) (unheld : AreUnheld old visited) where
   -- visits of one edge are of one literal
-  one_literal : (i k x y : ℕ) → StandsAt visited i x → StandsAt visited k y → y / 2 ≡ x / 2 → y ≡ x
-  one_literal i k x y at other same = elim (same_edge y x same) [
+  one_literal : (x k y : ℕ) → x < length old * 2 → (i : ℕ) → StandsAt visited i x → StandsAt visited k y → y / 2 ≡ x / 2 → y ≡ x
+  one_literal x k y below i at other same = elim (same_edge y x same) [
     | inl e ↦ e
-    | inr e ↦ (
-        let below = inside i x at in
-        absurd (elim (holds_either old x (omega (arith, below))) [
-          | inl h ↦ unheld i x at h
-          | inr h ↦ unheld k y other (subst (λ n. Holds old (lit_of n)) (sym e) h)
-        ])
-        )
+    | inr e ↦ absurd (elim (holds_either old x (omega (arith, below))) [
+      | inl h ↦ unheld i x at h
+      | inr h ↦ unheld k y other (subst (λ n. Holds old (lit_of n)) (sym e) h)
+    ])
   ]
 
-  pub flipped_next : (cur new : List End) (i x : ℕ) → StandsAt visited i x → length cur ≡ length old → IsFlipped old cur visited i →
+  pub flipped_next : (cur new : List End) (i x : ℕ) → StandsAt visited i x → x < length old * 2 → length cur ≡ length old → IsFlipped old cur visited i →
       new ≡ set cur (x / 2) (end_of (x % 2)) → IsFlipped old new visited (i + 1)
-  flipped_next cur new i x at many t e = subst (λ l. IsFlipped old l visited (i + 1)) (sym e) (record {
+  flipped_next cur new i x at below many t e = subst (λ l. IsFlipped old l visited (i + 1)) (sym e) (record {
     held = λ k y lt there. elim (cases_eq (y / 2) (x / 2)) [
-      | inl same ↦ subst (λ n. Holds (set cur (x / 2) (end_of (x % 2))) (lit_of n)) (sym (one_literal i k x y at there same)) here
+      | inl same ↦ subst (λ n. Holds (set cur (x / 2) (end_of (x % 2))) (lit_of n)) (sym (one_literal x k y below i at there same)) here
       | inr apart ↦ slice_get-set_other cur (x / 2) (end_of (x % 2)) (y / 2) apart ∙ t.held k y (earlier k y lt there apart) there
     ];
     other = λ f apart. slice_get-set_other cur (x / 2) (end_of (x % 2)) f (λ same. apart i x (omega arith) at (sym same)) ∙
@@ -86,7 +83,7 @@ module _ (old : List End) (visited : List ℕ) (inside : (k x : ℕ) → StandsA
   })
     where
       here : Holds (set cur (x / 2) (end_of (x % 2))) (lit_of x)
-      here = let below = inside i x at in slice_get-set_same cur (x / 2) (end_of (x % 2)) (omega (arith, below, many))
+      here = slice_get-set_same cur (x / 2) (end_of (x % 2)) (omega (arith, below, many))
 
       earlier : (k y : ℕ) → k < i + 1 → StandsAt visited k y → y / 2 ≢ x / 2 → k < i
       earlier k y lt there apart = elim (cases_eq k i) [
@@ -94,8 +91,8 @@ module _ (old : List End) (visited : List ℕ) (inside : (k x : ℕ) → StandsA
         | inr other ↦ omega (arith, lt, other)
       ]
 
-  pub flipped_done : (new : List End) (count : ℕ) → length visited ≤ count → IsFlipped old new visited count → IsAgreed old new (IsVisited visited)
-  flipped_done new count le t = record {
-    held = λ x h. let lt = slice_get_within visited h.0 x h.1 in t.held h.0 x (omega (arith, lt, le)) h.1;
-    other = λ e apart. t.other e (λ k x lt at. apart x (k, at));
-  }
+pub flipped_done : (old : List End) (visited : List ℕ) (new : List End) (count : ℕ) → length visited ≤ count → IsFlipped old new visited count → IsAgreed old new (IsVisited visited)
+flipped_done old visited new count le t = record {
+  held = λ x h. let lt = slice_get_within visited h.0 x h.1 in t.held h.0 x (omega (arith, lt, le)) h.1;
+  other = λ e apart. t.other e (λ k x lt at. apart x (k, at));
+}

@@ -3,14 +3,26 @@ use Rattle.std.proofs.Common.{◌≡◌, ℕ, ◌<◌, ◌≤◌, inl, inr, List
 use Rattle.std.specs.Prelude.{slice_get, slice_index_or}
 use Rattle.std.proofs.lemmas.Option.{slice_get_read, get_or_from_slice_get, slice_get_within}
 use Rattle.tor_digraph.specs.declared.way.Way.{Way}
-use Rattle.tor_arena.proofs.Gets.{slice_get-push_old, slice_get-push_last, slice_get-set_cases}
+use Rattle.tor_arena.proofs.Gets.{slice_get-push_old, slice_get-push_last, slice_get-set_cases, slice_get-some}
+use Rattle.tor_digraph.specs.Walks.{IsArc}
+use Rattle.tor_clauses.proofs.Leadings.{way_arc}
 use Rattle.tor_clauses.specs.Formulas.{Formula, first_of}
 use Rattle.tor_clauses.specs.declared.clauses.ClauseMark.{ClauseMark}
 use Rattle.tor_mend.specs.declared.known.Part.{Part}
 use Rattle.tor_mend.specs.declared.known.Known.{Known}
-use Rattle.tor_mend.specs.Rounds.{IsLed, IsPart, IsPartOf, IsEarly, AreKnown}
+use Rattle.tor_clauses.specs.Rounds.{IsLed}
+use Rattle.tor_mend.specs.Ways.{IsPart, IsPartOf, IsEarly, AreKnown}
 use Rattle.tor_mend.proofs.Prefixes.{later_arc, earlier_arc, arcs_stay}
-use Rattle.tor_mend.proofs.Ways.{some_same}
+use Rattle.tor_clauses.proofs.Ways.{some_same}
+
+-- the nodes of a way but the last are tails of arcs
+pub way_inside : (arcs : List (ℕ × ℕ)) (nodes : ℕ) → ((k u v : ℕ) → IsArc arcs k u v → u < nodes) → (from to : ℕ) (way : Way ℕ ℕ) → IsLed arcs way from to → (k x : ℕ) →
+    k < length way.arcs → slice_get way.nodes k ≡ Some x → x < nodes
+way_inside arcs nodes tails from to way led k x lt at =
+    let a = slice_get-some way.arcs k lt in
+    let r = way_arc arcs from to way.nodes way.arcs k a.0 led a.1 in
+    let same : r.0 ≡ x = some_same (sym r.2 ∙ at) in
+    subst (λ n. n < nodes) same (tails a.0 r.0 r.1 r.4)
 
 -- one way more, of which no part is named yet
 pub known_way : (arcs : List (ℕ × ℕ)) (first : ℕ) (way : Way ℕ ℕ) (k new : Known) → new.ways ≡ k.ways ++ way ∷ [] → new.parts ≡ k.parts → new.places.items ≡ k.places.items →
@@ -124,7 +136,3 @@ way_of_part arcs early node part all ways same of =
     let there : slice_get ways part.way ≡ Some of.way = ap (λ (l : List (Way ℕ ℕ)). slice_get l part.way) same ∙ of.there in
     let below = slice_get_within ways part.way of.way there in
     (below, λ along is. subst (λ w. IsPart arcs w part.skip node) (some_same (sym there ∙ slice_get_read ways (length ways) part.way along refl below is)) of.leads)
-
--- the same of equal arcs, of which equally many are the first
-pub known_same : (arcs arcs' : List (ℕ × ℕ)) (first first' : ℕ) (known : Known) → arcs' ≡ arcs → first' ≡ first → AreKnown arcs' first' known → AreKnown arcs first known
-known_same arcs arcs' first first' known e-arcs e-first are = subst (λ n. AreKnown arcs n known) e-first (subst (λ a. AreKnown a first' known) e-arcs are)

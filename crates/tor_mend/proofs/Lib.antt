@@ -1,11 +1,10 @@
 pub mod Closed
 pub mod Flips
 pub mod Knowing
+pub mod Passing
 pub mod Prefixes
-pub mod Refuting
+pub mod Joining
 pub mod Relinking
 pub mod Scans
-pub mod Trailing
 pub mod Trials
-pub mod Ways
 pub mod Shortening

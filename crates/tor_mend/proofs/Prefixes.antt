@@ -5,7 +5,7 @@ use Rattle.std.proofs.lemmas.List.{length-take}
 use Rattle.tor_arena.proofs.Gets.{slice_get-some, slice_get-take}
 use Rattle.tor_clauses.specs.Formulas.{Formula, first_of}
 use Rattle.tor_clauses.specs.declared.clauses.ClauseMark.{ClauseMark}
-use Rattle.tor_mend.proofs.Ways.{some_same}
+use Rattle.tor_clauses.proofs.Ways.{some_same}
 
 module _ (f g : Formula) (mark : ClauseMark) (prefix : first_of g mark ≡ f) where
   first_arcs : take (mark.triples * 2) g.net.arcs ≡ f.net.arcs

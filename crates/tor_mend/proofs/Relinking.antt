@@ -25,7 +25,7 @@ use Rattle.tor_mend.specs.declared.refusals.Refusal.{Refusal}
 use Rattle.tor_mend.specs.declared.refusals.Met.{Met}
 use Rattle.tor_mend.specs.Refusals.{node_at, relink, relinked, NamesOnly, HasTriple, RefutesTriple, IsRefusalOf, AreRefused, HasRefusedTriple, IsOfPath}
 use Rattle.tor_mend.specs.Refusals.{IsMetWith, IsSameTriple, UsesAt, IsPut, Remembers}
-use Rattle.tor_mend.proofs.Ways.{some_same}
+use Rattle.tor_clauses.proofs.Ways.{some_same}
 
 -- ---- one place of a path, one triple
 

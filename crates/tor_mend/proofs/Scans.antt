@@ -7,11 +7,13 @@ use Rattle.relationships.specs.declared.label.End.{End}
 use Rattle.tor_digraph.specs.Walks.{IsArc}
 use Rattle.tor_digraph.specs.Links.{IsLatest}
 use Rattle.tor_arena.proofs.Gets.{slice_get-some}
-use Rattle.tor_mend.specs.declared.trail.Stop.{Stop}
+use Rattle.tor_mend.specs.declared.searching.Stop.{Stop}
 use Rattle.tor_digraph.specs.Search.{steps_of}
-use Rattle.tor_mend.specs.Trails.{StandsAt, StaysVisited, IsPassed, ArePassed, IsStop, IsStopAt, IsLook}
-use Rattle.tor_mend.proofs.Trailing.{passed_more, all_passed_more}
-use Rattle.tor_mend.proofs.Ways.{some_same}
+use Rattle.tor_digraph.specs.Trails.{StandsAt}
+use Rattle.tor_digraph.specs.Spreading.{Stays}
+use Rattle.tor_mend.specs.Searches.{IsPassed, ArePassed, IsStop, IsStopAt, IsLook}
+use Rattle.tor_mend.proofs.Passing.{passed_more, all_passed_more}
+use Rattle.tor_clauses.proofs.Ways.{some_same}
 
 pub get_at : {X : Type 0} (xs : List X) (k : ℕ) (d : X) → k < length xs → slice_get xs k ≡ Some (slice_index_or xs k d)
 get_at xs k d lt = let s = slice_get-some xs k lt in s.1 ∙ ap Some (sym (get_or_from_slice_get xs k s.0 d s.1))
@@ -53,7 +55,7 @@ module _ (arcs : List (ℕ × ℕ)) (ends : List End) where
       let latest = subst (IsLatest (λ b. b) arcs s.node s.high) is s.latest in
       slice_get_within arcs a (s.node, latest.1.0) latest.1.1
 
-  pub scan_next : (old new : List ℕ) (place a : ℕ) (next more : Option ℕ) → next ≡ Some a → IsScan arcs ends old place next → StaysVisited old new →
+  pub scan_next : (old new : List ℕ) (place a : ℕ) (next more : Option ℕ) → next ≡ Some a → IsScan arcs ends old place next → Stays old new →
       ((l m : ℕ) → IsArc arcs a l m → IsPassed ends new place m) → ((u v : ℕ) → IsArc arcs a u v → IsLatest (λ b. b) arcs u a more) →
       IsScan arcs ends new place more
   scan_next old new place a next more is s grown looked later =

@@ -2,7 +2,7 @@
 use Rattle.std.proofs.Common.{◌≡◌, ◌≤◌, ℕ, zero, suc, List, [], ◌∷◌, ◌++◌, Some, refl, sym, ap, ◌∙◌, subst, arith}
 use Rattle.std.specs.Prelude.{slice_get, slice_set}
 use Rattle.tor_arena.proofs.Gets.{slice_get-push_old}
-use Rattle.tor_mend.proofs.Ways.{some_same}
+use Rattle.tor_clauses.proofs.Ways.{some_same}
 use Rattle.tor_mend.specs.declared.refusals.Refusal.{Refusal}
 use Rattle.tor_mend.specs.Refusals.{NoneGrows}
 

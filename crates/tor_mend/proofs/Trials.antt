@@ -4,8 +4,9 @@ use Rattle.std.proofs.lemmas.Option.{slice_get_within}
 use Rattle.tor_digraph.specs.Walks.{IsArc}
 use Rattle.tor_digraph.specs.Links.{IsLatest}
 use Rattle.tor_digraph.specs.Search.{steps_of}
-use Rattle.tor_mend.specs.Trails.{StandsAt, StaysVisited}
-use Rattle.tor_mend.proofs.Ways.{some_same}
+use Rattle.tor_digraph.specs.Trails.{StandsAt}
+use Rattle.tor_digraph.specs.Spreading.{Stays}
+use Rattle.tor_clauses.proofs.Ways.{some_same}
 
 -- the next arc to look along is one from the node at a place
 pub record IsLooking (arcs : List (ℕ × ℕ)) (nodes : List ℕ) (place : ℕ) (next : Option ℕ) : Type 0 where
@@ -31,7 +32,7 @@ module _ (arcs : List (ℕ × ℕ)) where
     looking_there = slice_get_within arcs a (s.node, latest_is.1.0) latest_is.1.1
 
     module _ (more : Option ℕ) (later : (u v : ℕ) → IsArc arcs a u v → IsLatest (λ b. b) arcs u a more) where
-      pub looking_next : (new : List ℕ) → StaysVisited nodes new → IsLooking arcs new place more
+      pub looking_next : (new : List ℕ) → Stays nodes new → IsLooking arcs new place more
       looking_next new grown = record { node = s.node; here = grown place s.node s.here; high = a; latest = later s.node latest_is.1.0 latest_is.1.1 }
 
       pub looking_smaller : steps_of (λ b. b) more < steps_of (λ b. b) next

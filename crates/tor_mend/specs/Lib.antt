@@ -1,5 +1,4 @@
 pub mod Mends
-pub mod Posing
 pub mod Refusals
-pub mod Rounds
-pub mod Trails
+pub mod Searches
+pub mod Ways

@@ -6,7 +6,6 @@ use Rattle.tor_clauses.specs.Literals.{lit_of, opposite_node, Holds}
 use Rattle.tor_clauses.specs.Flipping.{ImplicationHolds, IsPartner}
 use Rattle.tor_mend.specs.declared.flipping.Flip.{Flip}
 use Rattle.tor_mend.specs.declared.mending.State.{State}
-use Rattle.tor_mend.specs.Trails.{IsMarked}
 
 -- ---- going back
 
@@ -20,10 +19,10 @@ AreInside count flips = (k : ℕ) (f : Flip) → slice_get flips k ≡ Some f �
 
 -- ---- a repair under way
 
--- one end for each edge, and a trail of nodes below so many
+-- one end for each edge, and a trail of so many nodes
 pub record IsState (nodes : ℕ) (s : State) : Type 0 where
   pub ends : length s.ends * 2 ≡ nodes
-  pub trail : IsMarked nodes s.trail.nodes
+  pub trail : s.trail.nodes.count ≡ nodes
   pub flips : AreInside (length s.ends) s.flips
 
 -- each arc is met that was met before, or that leads to the start or from its negation; and what holds now and did not hold before is

@@ -1,14 +1,15 @@
 //! Ends that were changed.
 ghost use Rattle.std.specs.Prelude.{◌≡◌, ℕ, ◌*◌, ◌<◌, [], length, OnOk};
-ghost use Rattle.tor_clauses.specs.Literals.{lit_of, Holds};
-ghost use Rattle.tor_mend.specs.Trails.{StandsAt, IsVisited};
+ghost use Rattle.tor_digraph.specs.Trails.{StandsAt};
 ghost use Rattle.tor_clauses.specs.Flipping.{IsAgreed};
+ghost use Rattle.tor_mend.specs.Searches.{AreUnheld, IsVisited};
 ghost use Rattle.tor_mend.specs.Mends.{flipped_back, AreInside};
 
 use as_graph::Orientation;
 use relationships::End;
-use tor_arena::{EdgeId, Index, List, NoMemory, NodeId};
+use tor_arena::{EdgeId, Index, List, NoMemory};
 use tor_clauses::Lit;
+use tor_digraph::NodeSet;
 
 /// An edge whose provider was changed, and which end it was.
 #[derive(Clone, Copy)]
@@ -22,19 +23,20 @@ pub struct Flip {
 /// Makes the literals that were visited hold, none of which holds. Where memory runs out, some of them hold.
 pub(crate) fn flip_all(
     ends: &mut Orientation,
-    visited: &[NodeId],
+    visited: &NodeSet,
     flips: &mut List<Flip>,
 ) -> Result<(), NoMemory>
-    requires inside { (k x : ℕ) → StandsAt visited.now k x → x < length ends.old * 2 }
-    requires unheld { (k x : ℕ) → StandsAt visited.now k x → Holds ends.old (lit_of x) → ⊥ }
+    requires count { visited.now.count ≡ length ends.old * 2 }
+    requires unheld { AreUnheld ends.old visited.now.items }
     requires flips { AreInside (length ends.old) flips.old }
     ensures many { length ends.new ≡ length ends.old }
     ensures flips { AreInside (length ends.new) flips.new }
     ensures back { flipped_back ends.new flips.new ≡ flipped_back ends.old flips.old }
-    ensures agreed { OnOk result (IsAgreed ends.old ends.new (IsVisited visited.now)) }
+    ensures inside { OnOk result ((k x : ℕ) → StandsAt visited.now.items k x → x < length ends.old * 2) }
+    ensures agreed { OnOk result (IsAgreed ends.old ends.new (IsVisited visited.now.items)) }
 {
-    for node in visited {
-        let lit = Lit::of_node(*node);
+    for place in 0..visited.len() {
+        let lit = Lit::of_node(visited.get(place));
         let edge = lit.edge();
         let was = ends.as_slice()[edge.place()];
         flips.push(Flip { edge, was })?;

@@ -4,13 +4,13 @@
 //! took a tenth off selection. What the nodes are is compared, so nothing rests on how a way was put together.
 ghost use Rattle.std.specs.Prelude.{◌≡◌, [], ℕ, ◌+◌, ◌≤◌, ◌↔◌, List, length, slice_get, Some, IsTrue, IfOk, IfSome, IfNone, OnOk};
 ghost use Rattle.tor_clauses.specs.Literals.{opposite_node};
-ghost use Rattle.tor_mend.specs.Rounds.{IsLed, LeadsOn, GoesAlongMiddle, IsEarly, AreKnown};
+ghost use Rattle.tor_clauses.specs.Rounds.{IsLed, LeadsOn};
+ghost use Rattle.tor_mend.specs.Ways.{GoesAlongMiddle, IsEarly, AreKnown};
 
-use crate::rounding::go;
 use std::alloc::Global;
 use tor_arena::{ArcId, Arena, Index, List, NoMemory, NodeId};
-use tor_clauses::negation_node;
-use tor_digraph::{Digraph, Way};
+use tor_clauses::{Fitted, go, negation_node};
+use tor_digraph::Way;
 
 /// Ways of more nodes are not remembered: walks that are put together from longer ones would fill a result, and searching anew is
 /// seldom dear.
@@ -67,25 +67,25 @@ impl Known {
     /// Goes on along the part at a place, from the node of which it is known to the negation of that.
     pub(crate) fn go_along_part(
         &self,
-        digraph: &Digraph<NodeId, ArcId>,
+        fitted: &Fitted<'_>,
         place: usize,
         way: &mut Way<NodeId, ArcId>,
     ) -> Result<(), NoMemory>
         requires there { (node : ℕ) × (slice_get self.now.places.items node ≡ Some (Some place)) }
-        requires known { (early : ℕ) × AreKnown digraph.now.arcs early self.now }
+        requires known { (early : ℕ) × AreKnown fitted.now.formula.net.arcs early self.now }
         ensures { OnOk result ((node : ℕ) → slice_get self.now.places.items node ≡ Some (Some place) →
-            LeadsOn digraph.now.arcs way.old way.new node (opposite_node node)) }
+            LeadsOn fitted.now.formula.net.arcs way.old way.new node (opposite_node node)) }
     {
         let part = &self.parts.as_slice()[place];
-        go_along(digraph, &self.ways.as_slice()[part.way], part.skip, way)
+        go_along(fitted, &self.ways.as_slice()[part.way], part.skip, way)
     }
 
     /// Makes room for a part of each node, if there is none.
-    fn make_room(&mut self, digraph: &Digraph<NodeId, ArcId>) -> Result<(), NoMemory>
-        ensures room { OnOk result (digraph.now.nodes ≤ length self.new.places.items) }
+    fn make_room(&mut self, fitted: &Fitted<'_>) -> Result<(), NoMemory>
+        ensures room { OnOk result (fitted.now.formula.net.nodes ≤ length self.new.places.items) }
         ensures known { (arcs : List (ℕ × ℕ)) (first : ℕ) → AreKnown arcs first self.old → AreKnown arcs first self.new }
     {
-        let missing = digraph.node_count().saturating_sub(self.places.len());
+        let missing = fitted.node_count().saturating_sub(self.places.len());
         self.places.push_copies(None, missing)
     }
 
@@ -93,19 +93,19 @@ impl Known {
     /// there are 2^32 parts.
     fn remember_parts(
         &mut self,
-        digraph: &Digraph<NodeId, ArcId>,
+        fitted: &Fitted<'_>,
         first: usize,
         way: &Way<NodeId, ArcId>,
         place: usize,
     ) -> Result<(), NoMemory>
-        requires room { digraph.now.nodes ≤ length self.old.places.items }
-        requires led { (from to : ℕ) × IsLed digraph.now.arcs way.now from to }
+        requires room { fitted.now.formula.net.nodes ≤ length self.old.places.items }
+        requires led { (from to : ℕ) × IsLed fitted.now.formula.net.arcs way.now from to }
         requires early { IsEarly first way.now }
         requires there { slice_get self.old.ways place ≡ Some way.now }
-        requires known { AreKnown digraph.now.arcs first self.old }
-        ensures known { AreKnown digraph.now.arcs first self.new }
+        requires known { AreKnown fitted.now.formula.net.arcs first self.old }
+        ensures known { AreKnown fitted.now.formula.net.arcs first self.new }
     {
-        prove!(digraph.node_count() <= self.places.len());
+        fitted.facts();
         let nodes = way.nodes.as_slice();
         let last = way.arcs.len();
         for skip in 0..nodes.len() / 2 {
@@ -127,21 +127,21 @@ impl Known {
     pub(crate) fn remember(
         &mut self,
         alloc: Global,
-        digraph: &Digraph<NodeId, ArcId>,
+        fitted: &Fitted<'_>,
         first: usize,
         node: NodeId,
         way: &Way<NodeId, ArcId>,
     ) -> Result<(), NoMemory>
-        requires way { IsLed digraph.now.arcs way.now node (opposite_node node) }
-        requires known { AreKnown digraph.now.arcs first self.old }
-        ensures known { AreKnown digraph.now.arcs first self.new }
+        requires way { IsLed fitted.now.formula.net.arcs way.now node (opposite_node node) }
+        requires known { AreKnown fitted.now.formula.net.arcs first self.old }
+        ensures known { AreKnown fitted.now.formula.net.arcs first self.new }
     {
         let short = way.arcs.len() < LONGEST;
         if short && self.part_of(node).is_none() && is_early(way, first) {
-            self.make_room(digraph)?;
+            self.make_room(fitted)?;
             let place = self.ways.len();
             self.ways.push(copy(alloc, way)?)?;
-            self.remember_parts(digraph, first, way, place)?;
+            self.remember_parts(fitted, first, way, place)?;
         }
         Ok(())
     }
@@ -188,18 +188,18 @@ fn copy_into(way: &Way<NodeId, ArcId>, same: &mut Way<NodeId, ArcId>) -> Result<
 
 /// Goes on along the arcs of a way, but for the first, so many, and as many of the last.
 pub(crate) fn go_along(
-    digraph: &Digraph<NodeId, ArcId>,
+    fitted: &Fitted<'_>,
     along: &Way<NodeId, ArcId>,
     skip: usize,
     way: &mut Way<NodeId, ArcId>,
 ) -> Result<(), NoMemory>
-    requires led { (from to : ℕ) × IsLed digraph.now.arcs along.now from to }
+    requires led { (from to : ℕ) × IsLed fitted.now.formula.net.arcs along.now from to }
     requires fits { skip + skip ≤ length along.now.arcs }
-    ensures { OnOk result (GoesAlongMiddle digraph.now.arcs along.now skip way.old way.new) }
+    ensures { OnOk result (GoesAlongMiddle fitted.now.formula.net.arcs along.now skip way.old way.new) }
 {
     let arcs = along.arcs.as_slice();
     for place in skip..arcs.len() - skip {
-        go(digraph, arcs[place], way)?;
+        go(fitted, arcs[place], way)?;
     }
     Ok(())
 }

@@ -5,15 +5,13 @@
 mod flipping;
 mod known;
 mod mending;
-mod problem;
 mod refusals;
-mod rounding;
-mod trail;
+mod refuting;
+mod searching;
 
 pub use flipping::{Flip, flip_back};
 pub use known::{Known, Part};
 pub use mending::{State, at_rest, mend, nearer_side, start};
-pub use problem::Problem;
 pub use refusals::{Met, Refusal, Refusals, walk_again};
-pub use rounding::{Conflict, walk_by};
-pub use trail::{Origin, Trail, holds};
+pub use refuting::{Conflict, walk_by};
+pub use searching::holds;

@@ -3,24 +3,24 @@
 //! Both arcs of a triple are followed by turns, and the nearer end is mended. If one is always taken, a chain of n orders that is asked
 //! to turn n times takes n times n. Up to 64 arcs the arc goes before its partner.
 ghost use Rattle.std.specs.Prelude.{◌≡◌, ℕ, ◌*◌, ◌<◌, [], List, length, OnOk, IfOk, IfSome, IfNone};
-ghost use Rattle.relationships.specs.declared.label.End.{End as Side};
 ghost use Rattle.tor_arena.specs.Limits.{max_numbers};
+ghost use Rattle.tor_digraph.specs.Trails.{IsTrail};
 ghost use Rattle.tor_clauses.specs.Literals.{lit_of, opposite_node, Holds};
-ghost use Rattle.tor_mend.specs.Trails.{StandsAt, IsMarked, IsTrail, IsStop};
-ghost use Rattle.tor_mend.specs.Mends.{IsState, IsMended, IsUnmet, IsSide, flipped_back};
-ghost use Rattle.tor_mend.specs.Posing.{first_open};
-ghost use Rattle.tor_mend.specs.Rounds.{IsLed, GoesRound, AreKnown};
+ghost use Rattle.tor_clauses.specs.Rounds.{IsLed};
+ghost use Rattle.tor_mend.specs.Searches.{IsStop};
+ghost use Rattle.tor_mend.specs.Mends.{IsState, IsMended, IsSide, flipped_back};
+ghost use Rattle.tor_mend.specs.Ways.{AreKnown};
 
 use crate::flipping::{Flip, flip_all};
 use crate::known::Known;
-use crate::problem::Problem;
-use crate::rounding::{go_by, go_round, stay};
-use crate::trail::{Stop, Trail};
+use crate::refuting::way_by;
+use crate::searching::{Stop, ends_within, visit_all};
 use as_graph::Orientation;
 use relationships::End;
 use std::alloc::Global;
 use tor_arena::{ArcId, List, NoMemory, NodeId};
-use tor_digraph::Way;
+use tor_clauses::{Fitted, way_round};
+use tor_digraph::{Trail, Way};
 
 /// An orientation that is repaired, and what a repair needs.
 #[derive(Drop)]
@@ -97,81 +97,55 @@ pub fn at_rest(alloc: Global, ends: Orientation) -> Result<State, NoMemory>
     }
 }
 
-/// The way from a literal to its negation, where a search from it has stopped.
-fn way_round(
+/// The way from the start of a search to its negation, where the search has stopped.
+fn way_from(
     alloc: Global,
-    problem: &Problem<'_>,
+    fitted: &Fitted<'_>,
     start: NodeId,
     stop: Stop,
     trail: &Trail,
     known: &Known,
 ) -> Result<Way<NodeId, ArcId>, NoMemory>
-    requires first { StandsAt trail.now.nodes.items 0 start }
-    requires trail { (ends : List Side) × IsTrail problem.now.formula.net.arcs ends trail.now }
-    requires stop { IsStop problem.now.formula.net.arcs known.now.places.items trail.now.nodes.items stop }
-    requires known { (early : ℕ) × AreKnown problem.now.formula.net.arcs early known.now }
-    ensures { IfOk result (λ way. IsLed problem.now.formula.net.arcs way start (opposite_node start)) }
-{
-    let mut way = stay(alloc, start)?;
-    match go_on(alloc, problem, stop, trail, known, &mut way) {
-        Ok(()) => Ok(way),
-        Err(NoMemory) => {
-            drop(way);
-            Err(NoMemory)
-        }
-    }
-}
-
-/// Goes on from the first node of a trail to its negation, where a search has stopped.
-fn go_on(
-    alloc: Global,
-    problem: &Problem<'_>,
-    stop: Stop,
-    trail: &Trail,
-    known: &Known,
-    way: &mut Way<NodeId, ArcId>,
-) -> Result<(), NoMemory>
-    requires trail { (ends : List Side) × IsTrail problem.now.formula.net.arcs ends trail.now }
-    requires stop { IsStop problem.now.formula.net.arcs known.now.places.items trail.now.nodes.items stop }
-    requires known { (early : ℕ) × AreKnown problem.now.formula.net.arcs early known.now }
-    ensures { OnOk result (GoesRound problem.now.formula.net.arcs trail.now.nodes.items way.old way.new) }
+    requires trail { IsTrail fitted.now.formula.net.arcs start trail.now }
+    requires stop { IsStop fitted.now.formula.net.arcs known.now.places.items trail.now.nodes.items stop }
+    requires known { (early : ℕ) × AreKnown fitted.now.formula.net.arcs early known.now }
+    ensures { IfOk result (λ way. IsLed fitted.now.formula.net.arcs way start (opposite_node start)) }
 {
     match stop {
-        Stop::Clash(arc) => go_round(alloc, problem, trail, arc, way),
-        Stop::Known(place) => go_by(alloc, problem, trail, place, known, way),
+        Stop::Clash(arc) => way_round(alloc, fitted, start, trail, arc),
+        Stop::Known(place) => way_by(alloc, fitted, start, trail, place, known),
     }
 }
 
 /// Makes a literal hold that does not hold, and all to which it leads. Where that cannot be nothing is changed, and a way from it to
-/// its negation is answered. Ways that are remembered go along arcs of triples that were satisfied before the repair. The only error is
-/// that memory ran out; then some of the literals may hold, to be taken back.
+/// its negation is answered. Ways that are remembered go along the first arcs alone, so many. The only error is that memory ran out; then
+/// some of the literals may hold, to be taken back.
 pub fn mend(
     alloc: Global,
-    problem: &Problem<'_>,
+    fitted: &Fitted<'_>,
+    first: usize,
     start: NodeId,
     state: &mut State,
 ) -> Result<Option<Way<NodeId, ArcId>>, NoMemory>
-    requires state { IsState problem.now.formula.net.nodes state.old }
-    requires known { AreKnown problem.now.formula.net.arcs (first_open problem.now) state.old.known }
-    requires there { start < problem.now.formula.net.nodes }
+    requires state { IsState fitted.now.formula.net.nodes state.old }
+    requires known { AreKnown fitted.now.formula.net.arcs first state.old.known }
+    requires there { start < fitted.now.formula.net.nodes }
     requires unheld { Holds state.old.ends (lit_of start) → ⊥ }
-    ensures state { IsState problem.now.formula.net.nodes state.new }
-    ensures known { AreKnown problem.now.formula.net.arcs (first_open problem.now) state.new.known }
+    ensures state { IsState fitted.now.formula.net.nodes state.new }
+    ensures known { AreKnown fitted.now.formula.net.arcs first state.new.known }
     ensures back { flipped_back state.new.ends state.new.flips ≡ flipped_back state.old.ends state.old.flips }
-    ensures mended { IfOk result (λ w. IfNone w (IsMended problem.now.formula.net.arcs state.old.ends state.new.ends start)) }
+    ensures mended { IfOk result (λ w. IfNone w (IsMended fitted.now.formula.net.arcs state.old.ends state.new.ends start)) }
     ensures same { IfOk result (λ way. IfSome way (λ _. state.new.ends ≡ state.old.ends)) }
-    ensures way { IfOk result (λ w. IfSome w (λ found. IsLed problem.now.formula.net.arcs found start (opposite_node start))) }
+    ensures way { IfOk result (λ w. IfSome w (λ found. IsLed fitted.now.formula.net.arcs found start (opposite_node start))) }
 {
-    problem.facts();
-    let digraph = problem.digraph();
-    let stop = state
-        .trail
-        .visit_all(digraph, state.ends.as_slice(), &state.known, start)?;
+    fitted.facts();
+    let digraph = fitted.digraph();
+    let ends = state.ends.as_slice();
+    let stop = visit_all(digraph, ends, &state.known, start, &mut state.trail)?;
     match stop {
         Some(stop) => {
-            let way = way_round(alloc, problem, start, stop, &state.trail, &state.known)?;
-            let first = problem.first_open();
-            match state.known.remember(alloc, digraph, first, start, &way) {
+            let way = way_from(alloc, fitted, start, stop, &state.trail, &state.known)?;
+            match state.known.remember(alloc, fitted, first, start, &way) {
                 Ok(()) => Ok(Some(way)),
                 Err(NoMemory) => {
                     drop(way);
@@ -180,11 +154,7 @@ pub fn mend(
             }
         }
         None => {
-            flip_all(
-                &mut state.ends,
-                state.trail.nodes.as_slice(),
-                &mut state.flips,
-            )?;
+            flip_all(&mut state.ends, &state.trail.nodes, &mut state.flips)?;
             Ok(None)
         }
     }
@@ -194,31 +164,30 @@ pub fn mend(
 /// by turns, each turn along twice as many arcs, and the arc itself has the first. The trail is forgotten. The only error is that memory
 /// ran out.
 pub fn nearer_side(
-    problem: &Problem<'_>,
+    fitted: &Fitted<'_>,
     arc: ArcId,
     ends: &[End],
     known: &Known,
     trail: &mut Trail,
 ) -> Result<ArcId, NoMemory>
-    requires there { arc < length problem.now.formula.net.arcs }
-    requires unmet { IsUnmet problem.now.formula.net.arcs ends.now arc }
-    requires ends { length ends.now * 2 ≡ problem.now.formula.net.nodes }
-    requires marked { IsMarked problem.now.formula.net.nodes trail.old.nodes }
-    ensures marked { IsMarked problem.now.formula.net.nodes trail.new.nodes }
-    ensures side { IfOk result (IsSide problem.now.formula.net.arcs arc) }
-    ensures there { IfOk result (λ side. side < length problem.now.formula.net.arcs) }
+    requires there { arc < length fitted.now.formula.net.arcs }
+    requires ends { length ends.now * 2 ≡ fitted.now.formula.net.nodes }
+    requires count { trail.old.nodes.count ≡ fitted.now.formula.net.nodes }
+    ensures count { trail.new.nodes.count ≡ fitted.now.formula.net.nodes }
+    ensures side { IfOk result (IsSide fitted.now.formula.net.arcs arc) }
+    ensures there { IfOk result (λ side. side < length fitted.now.formula.net.arcs) }
 {
-    problem.facts();
-    let digraph = problem.digraph();
-    let partner = problem.partner(arc);
+    fitted.facts();
+    let digraph = fitted.digraph();
+    let partner = fitted.partner(arc);
     let (_, head) = digraph.ends(arc);
     let (_, other) = digraph.ends(partner);
     let mut arcs = FIRST_TURN;
     for _ in 0..TURNS {
-        if trail.ends_within(digraph, ends, known, head, arcs)? {
+        if ends_within(digraph, ends, known, head, arcs, trail)? {
             return Ok(arc);
         }
-        if trail.ends_within(digraph, ends, known, other, arcs)? {
+        if ends_within(digraph, ends, known, other, arcs, trail)? {
             return Ok(partner);
         }
         arcs = arcs.saturating_mul(2);

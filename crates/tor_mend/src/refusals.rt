@@ -232,9 +232,15 @@ fn shorter(before: Option<Met>, here: Option<Met>) -> Option<Met>
     ensures { (result ≡ before) ⊎ (result ≡ here) }
 {
     match (before, here) {
-        (Some(one), Some(other)) if one.links <= other.links => before,
+        (None, _) => here,
         (Some(_), None) => before,
-        _ => here,
+        (Some(one), Some(other)) => {
+            if one.links <= other.links {
+                before
+            } else {
+                here
+            }
+        }
     }
 }
 

@@ -18,14 +18,14 @@ use Rattle.tor_clauses.specs.Formulas.{Formula, FitsGraph, IsServed, IsModel}
 use Rattle.tor_clauses.specs.ClauseLaws.{ModelLaw}
 use Rattle.tor_clauses.proofs.Members.{get-In}
 use Rattle.tor_clauses.proofs.Distincts.{Apart}
-use Rattle.tor_clauses.proofs.Overs.{edges-apart}
+use Rattle.tor_clauses.proofs.Overs.{edges-apart, one_place}
 use Rattle.tor_clauses.proofs.Sames.{edge_same}
 use Rattle.tor_clauses.proofs.Sides.{same_edge as same_number, edge_opposite, holds_one}
 use Rattle.tor_clauses.proofs.LiteralLemmas.{lit_of_node, node_of_lit, opposite_node-node, opposite_node_twice}
 use Rattle.tor_orient.specs.Wishes.{AreWishes}
 use Rattle.tor_orient.specs.Steps.{node_wanted, AgreesUpTo, AreSettled, IsEndOf, AreEndsOf}
 use Rattle.tor_orient.proofs.Models.{ends_of, whole_of}
-use Rattle.tor_orient.proofs.WishLemmas.{get-before, one_place, edge_stands}
+use Rattle.tor_orient.proofs.WishLemmas.{get-before, edge_stands}
 
 -- the end of an edge is the provider
 provider : (es : List Edge) (ends : List End) (k : ℕ) (e : Edge) (end : End) → Apart is_same es → slice_get es k ≡ Some e → slice_get ends k ≡ Some end → orientation es ends e.0 e.1 ≡ end

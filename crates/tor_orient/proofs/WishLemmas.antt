@@ -11,7 +11,7 @@ use Rattle.relationships.proofs.Edges.{same_edge}
 use Rattle.gao_prefs.specs.declared.preferring.Pref.{Pref}
 use Rattle.gao_prefs.specs.Preferences.{edge_preferred}
 use Rattle.tor_arena.proofs.Gets.{Contains-from_has, slice_get-map}
-use Rattle.tor_clauses.proofs.Overs.{edges-apart, place_is}
+use Rattle.tor_clauses.proofs.Overs.{one_place}
 use Rattle.tor_clauses.proofs.Sames.{edge_same}
 use Rattle.tor_orient.specs.Wishes.{wish, AreWishes}
 
@@ -23,9 +23,6 @@ get-before (a ∷ xs) ys zero x lt e = e
 get-before (a ∷ xs) ys (suc k) x lt e = get-before xs ys k x (omega (arith, lt)) e
 
 -- ---- the edges of preferences
-
-pub one_place : (graph : List (List ℕ)) (j k : ℕ) (e : Edge) → slice_get (edges graph) j ≡ Some e → slice_get (edges graph) k ≡ Some e → j ≡ k
-one_place graph j k e at there = sym (place_is (edges graph) j e (edges-apart graph) at) ∙ place_is (edges graph) k e (edges-apart graph) there
 
 -- the edge of a preference stands at its place
 pub edge_stands : (es : List Edge) (prefs : List Pref) → All (λ (pref : Pref). pref.edge < length es) prefs → (k : ℕ) (p : Pref) → slice_get prefs k ≡ Some p →

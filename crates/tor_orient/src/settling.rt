@@ -3,18 +3,17 @@ ghost use Rattle.std.specs.Prelude.{◌≡◌, ◌<◌, All, length, OnOk, IfOk}
 ghost use Rattle.relationships.specs.Selection.{IsServable};
 ghost use Rattle.relationships.specs.Graph.{edges};
 ghost use Rattle.tor_clauses.specs.Literals.{most_edges};
-ghost use Rattle.tor_clauses.specs.Formulas.{FitsGraph, demands_of};
+ghost use Rattle.tor_clauses.specs.Formulas.{demands_of};
 ghost use Rattle.tor_digraph.specs.Reached.{IsGrown};
 ghost use Rattle.tor_digraph.specs.Spreading.{IsClosed};
 ghost use Rattle.tor_digraph.specs.Trails.{IsTrail};
 ghost use Rattle.tor_orient.specs.Steps.{node_wanted, NoneLeadsOut, HasOpposites, IsOver, IsSettledBy, AreSettled};
 
 use crate::failing::{Search, failing_behind};
-use as_graph::AsGraph;
 use gao_prefs::Pref;
 use std::alloc::Global;
 use tor_arena::{ArcId, Index, NoMemory, NodeId};
-use tor_clauses::{Clauses, Lit, negation_node};
+use tor_clauses::{Fitted, Lit, negation_node};
 use tor_digraph::{NodeSet, RowDigraph, Trail, spread};
 
 /// Settles all literals that a search from this one has tried, from which no arc leads but to one of them or to what is settled.
@@ -86,23 +85,20 @@ fn settle(
 
 /// Settles the edges of these preferences, the first of them first, where none is settled yet.
 fn settle_each(
-    graph: &AsGraph,
-    clauses: &Clauses,
+    fitted: &Fitted<'_>,
     rows: &RowDigraph<'_, NodeId, ArcId>,
     prefs: &[Pref],
     search: &mut Search,
     settled: &mut NodeSet,
 ) -> Result<(), NoMemory>
-    requires fits { FitsGraph graph.now clauses.now }
-    requires servable { IsServable (demands_of graph.now clauses.now) }
-    requires inside { All (λ pref. pref.edge < length (edges graph.now)) prefs.now }
-    requires rows { rows.now ≡ clauses.now.net }
-    requires search { IsOver clauses.now.net.nodes search.old }
-    requires settled { AreSettled clauses.now prefs.now 0 settled.old }
-    ensures { OnOk result (AreSettled clauses.now prefs.now (length prefs.now) settled.new) }
+    requires servable { IsServable (demands_of fitted.now.graph fitted.now.formula) }
+    requires inside { All (λ pref. pref.edge < length (edges fitted.now.graph)) prefs.now }
+    requires rows { rows.now ≡ fitted.now.formula.net }
+    requires search { IsOver fitted.now.formula.net.nodes search.old }
+    requires settled { AreSettled fitted.now.formula prefs.now 0 settled.old }
+    ensures { OnOk result (AreSettled fitted.now.formula prefs.now (length prefs.now) settled.new) }
 {
-    graph.facts();
-    clauses.facts();
+    fitted.facts();
     prove!(rows.node_count() <= NodeId::LIMIT);
     for place in 0..prefs.len() {
         settle(rows, &prefs[place], search, settled)?;
@@ -113,38 +109,34 @@ fn settle_each(
 /// The same with a search of its own.
 fn settle_into(
     alloc: Global,
-    graph: &AsGraph,
-    clauses: &Clauses,
+    fitted: &Fitted<'_>,
     rows: &RowDigraph<'_, NodeId, ArcId>,
     prefs: &[Pref],
     settled: &mut NodeSet,
 ) -> Result<(), NoMemory>
-    requires fits { FitsGraph graph.now clauses.now }
-    requires servable { IsServable (demands_of graph.now clauses.now) }
-    requires inside { All (λ pref. pref.edge < length (edges graph.now)) prefs.now }
-    requires rows { rows.now ≡ clauses.now.net }
-    requires settled { AreSettled clauses.now prefs.now 0 settled.old }
-    ensures { OnOk result (AreSettled clauses.now prefs.now (length prefs.now) settled.new) }
+    requires servable { IsServable (demands_of fitted.now.graph fitted.now.formula) }
+    requires inside { All (λ pref. pref.edge < length (edges fitted.now.graph)) prefs.now }
+    requires rows { rows.now ≡ fitted.now.formula.net }
+    requires settled { AreSettled fitted.now.formula prefs.now 0 settled.old }
+    ensures { OnOk result (AreSettled fitted.now.formula prefs.now (length prefs.now) settled.new) }
 {
     let mut search = Search::new(alloc, rows.node_count())?;
-    settle_each(graph, clauses, rows, prefs, &mut search, settled)
+    settle_each(fitted, rows, prefs, &mut search, settled)
 }
 
 /// What is settled when the edges of these preferences are, the first of them first, where the arcs of the clauses stand in rows.
 pub(crate) fn settled_by(
     alloc: Global,
-    graph: &AsGraph,
-    clauses: &Clauses,
+    fitted: &Fitted<'_>,
     rows: &RowDigraph<'_, NodeId, ArcId>,
     prefs: &[Pref],
 ) -> Result<NodeSet, NoMemory>
-    requires fits { FitsGraph graph.now clauses.now }
-    requires servable { IsServable (demands_of graph.now clauses.now) }
-    requires inside { All (λ pref. pref.edge < length (edges graph.now)) prefs.now }
-    requires rows { rows.now ≡ clauses.now.net }
-    ensures { IfOk result (AreSettled clauses.now prefs.now (length prefs.now)) }
+    requires servable { IsServable (demands_of fitted.now.graph fitted.now.formula) }
+    requires inside { All (λ pref. pref.edge < length (edges fitted.now.graph)) prefs.now }
+    requires rows { rows.now ≡ fitted.now.formula.net }
+    ensures { IfOk result (AreSettled fitted.now.formula prefs.now (length prefs.now)) }
 {
     let mut settled = NodeSet::new(alloc, rows.node_count())?;
-    settle_into(alloc, graph, clauses, rows, prefs, &mut settled)?;
+    settle_into(alloc, fitted, rows, prefs, &mut settled)?;
     Ok(settled)
 }

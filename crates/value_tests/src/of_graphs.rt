@@ -11,7 +11,7 @@ use path_table::PathTable;
 use relationships::Fates;
 use std::alloc::Global;
 use tor_arena::{Index, Keys, NoMemory, PathId};
-use tor_clauses::Clauses;
+use tor_clauses::{Clauses, Fitted};
 use tor_solve::solve;
 
 /// Paths, and which of them are kept.
@@ -81,7 +81,8 @@ fn is_solved(alloc: Global, keys: Keys, graph: &AsGraph) -> bool {
     let Ok(mut clauses) = Clauses::new(alloc, keys, graph) else {
         return false;
     };
-    let is_solved = add_paths(graph, &mut clauses).is_ok() && solve(alloc, graph, &clauses).is_ok();
+    let is_solved = add_paths(graph, &mut clauses).is_ok()
+        && solve(alloc, &Fitted::new(graph, &clauses)).is_ok();
     drop(clauses);
     is_solved
 }

@@ -1,7 +1,7 @@
 use Rattle.std.proofs.Common.{rules, ◌≡◌, inr, length, sym, subst}
+use Rattle.std.proofs.lemmas.Result.{IfOk-from_err}
 use Rattle.forced_edges.specs.Batches.{AreNodesOf, IsBatchSettled}
 use Rattle.forced_edges.proofs.Batching.{settling_next, settling_done}
-use Rattle.forced_edges.proofs.Errors.{not_ok}
 use Rattle.forced_edges.proofs.batches.settle_batches.Goals as goal
 
 pub loop-alloc-init : goal.loop-alloc-init
@@ -28,7 +28,7 @@ pub returns-in_err-waiting : goal.returns-in_err-waiting
 returns-in_err-waiting c =
     let r = c.from_residual.result in
     let is = c.from_residual.ensures.0 in
-    record { settling = not_ok r _ is; settled = not_ok r _ is }
+    record { settling = IfOk-from_err r _ is; settled = IfOk-from_err r _ is }
 
 pub settle_batch-requires-in-loop-alloc : goal.settle_batch-requires-in-loop-alloc
 settle_batch-requires-in-loop-alloc c = record {

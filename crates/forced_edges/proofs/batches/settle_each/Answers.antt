@@ -1,9 +1,9 @@
 use Rattle.std.proofs.Common.{◌<◌, refl, arith}
 use Rattle.std.proofs.lemmas.List.Elements.{All-contains}
+use Rattle.std.proofs.lemmas.Result.{IfOk-from_err}
 use Rattle.tor_arena.proofs.Gets.{Contains-from_has}
 use Rattle.tor_digraph.proofs.Members.{read-at}
 use Rattle.forced_edges.proofs.Batching.{batch_begins, batch_next, batch_done}
-use Rattle.forced_edges.proofs.Errors.{not_ok}
 use Rattle.forced_edges.proofs.batches.settle_each.Goals as goal
 
 pub loop-place-init : goal.loop-place-init
@@ -48,13 +48,13 @@ pub returns-in_err-done : goal.returns-in_err-done
 returns-in_err-done c =
     let r = c.from_residual.result in
     let is = c.from_residual.ensures.0 in
-    record { settling = not_ok r _ is; batch = not_ok r _ is }
+    record { settling = IfOk-from_err r _ is; batch = IfOk-from_err r _ is }
 
 pub returns-in_err-let_wait : goal.returns-in_err-let_wait
 returns-in_err-let_wait c =
     let r = c.from_residual-in_err-let_wait.result in
     let is = c.from_residual-in_err-let_wait.ensures.0 in
-    record { settling = not_ok r _ is; batch = not_ok r _ is }
+    record { settling = IfOk-from_err r _ is; batch = IfOk-from_err r _ is }
 
 pub returns : goal.returns
 returns c =

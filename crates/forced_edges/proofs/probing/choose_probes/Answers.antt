@@ -1,12 +1,12 @@
 use Rattle.std.proofs.Common.{◌∙◌}
-use Rattle.forced_edges.proofs.Errors.{not_ok}
+use Rattle.std.proofs.lemmas.Result.{IfOk-from_err}
 use Rattle.forced_edges.proofs.probing.choose_probes.Goals as goal
 
 pub new-requires : goal.new-requires
 new-requires c = c.node_count.ensures.below
 
 pub returns-in_err-covered : goal.returns-in_err-covered
-returns-in_err-covered c = not_ok c.from_residual.result _ c.from_residual.ensures.0
+returns-in_err-covered c = IfOk-from_err c.from_residual.result _ c.from_residual.ensures.0
 
 pub probe_all-done-requires : goal.probe_all-done-requires
 probe_all-done-requires c = record {

@@ -1,11 +1,11 @@
 use Rattle.std.proofs.Common.{◌≡◌, ◌+◌, ◌-◌, ◌<◌, length, refl, subst, arith}
 use Rattle.std.proofs.lemmas.List.Elements.{All-contains}
+use Rattle.std.proofs.lemmas.Result.{IfOk-from_err}
 use Rattle.tor_arena.proofs.Gets.{Contains-from_has}
 use Rattle.tor_digraph.proofs.Members.{read-at}
 use Rattle.order_trials.specs.Candidates.{IsAgainst}
 use Rattle.order_trials.proofs.Helds.{held_along}
 use Rattle.forced_edges.proofs.MarkSteps.{IsProbing, begins, probing_next, all_right}
-use Rattle.forced_edges.proofs.Errors.{not_ok}
 use Rattle.forced_edges.proofs.probing.probe_all.Goals as goal
 
 pub loop-left-init : goal.loop-left-init
@@ -58,7 +58,7 @@ probe_order-requires c =
     }
 
 pub returns-in_err-probe_order : goal.returns-in_err-probe_order
-returns-in_err-probe_order c = not_ok c.from_residual.result _ c.from_residual.ensures.0
+returns-in_err-probe_order c = IfOk-from_err c.from_residual.result _ c.from_residual.ensures.0
 
 pub returns : goal.returns
 returns c =

@@ -5,10 +5,10 @@ use Rattle.std.specs.Prelude.{slice_get, IfNone, IfSome}
 use Rattle.tor_digraph.specs.Walks.{IsArc}
 use Rattle.tor_clauses.specs.Literals.{lit_of, opposite_node, Holds}
 use Rattle.tor_clauses.proofs.LiteralLemmas.{opposite_node_twice}
-use Rattle.tor_clauses.proofs.Sides.{holds_one}
+use Rattle.tor_clauses.proofs.Sides.{holds_one, opposite_below}
 use Rattle.tor_mend.specs.Mends.{IsMended}
-use Rattle.tor_mend.specs.Rounds.{IsLed}
-use Rattle.path_offer.proofs.Settlings.{opposite_below, settled_head, settled_tail}
+use Rattle.tor_clauses.specs.Rounds.{IsLed}
+use Rattle.path_offer.proofs.Settlings.{settled_head, settled_tail}
 use Rattle.path_offer.proofs.repairing.meet.Goals as goal
 
 pub ends-tail-requires : goal.ends-tail-requires
@@ -16,7 +16,7 @@ ends-tail-requires c = subst (λ net. c.args.arc < length net.arcs) (sym c.digra
 
 pub mend-requires : goal.mend-requires
 mend-requires c =
-    let arcs = c.args.problem.now.formula.net.arcs in
+    let arcs = c.args.fitted.now.formula.net.arcs in
     let old = c.args.state.now.ends in
     let tail : ℕ = c.ends-tail.result.0 in
     let head : ℕ = c.ends-tail.result.1 in
@@ -43,7 +43,7 @@ returns-in_err-mend c =
 
 pub returns-in-None : goal.returns-in-None
 returns-in-None c =
-    let arcs = c.args.problem.now.formula.net.arcs in
+    let arcs = c.args.fitted.now.formula.net.arcs in
     let old = c.args.state.now.ends in
     let tail : ℕ = c.ends-tail.result.0 in
     let head : ℕ = c.ends-tail.result.1 in
@@ -61,13 +61,13 @@ returns-in-None c =
 
 pub mend-requires-2 : goal.mend-requires-2
 mend-requires-2 c =
-    let arcs = c.args.problem.now.formula.net.arcs in
+    let arcs = c.args.fitted.now.formula.net.arcs in
     let old = c.args.state.now.ends in
     let tail : ℕ = c.ends-tail.result.0 in
     let head : ℕ = c.ends-tail.result.1 in
     let arc : IsArc arcs c.args.arc tail head = subst (λ net. slice_get net.arcs c.args.arc ≡ Some c.ends-tail.result) c.digraph.ensures c.ends-tail.ensures.arc in
     let below = subst (λ net. tail < net.nodes) c.digraph.ensures c.ends-tail.ensures.tail in
-    let nodes = c.args.problem.now.formula.net.nodes in
+    let nodes = c.args.fitted.now.formula.net.nodes in
     let low = subst (λ net. head < net.nodes) c.digraph.ensures c.ends-tail.ensures.head in
     let other_tail = opposite_below tail (length old) nodes c.requires.state.ends below in
     let other_head = opposite_below head (length old) nodes c.requires.state.ends low in
@@ -96,7 +96,7 @@ returns-in_err-mend-2 c =
 
 pub returns-in-None-2 : goal.returns-in-None-2
 returns-in-None-2 c =
-    let arcs = c.args.problem.now.formula.net.arcs in
+    let arcs = c.args.fitted.now.formula.net.arcs in
     let old = c.args.state.now.ends in
     let tail : ℕ = c.ends-tail.result.0 in
     let head : ℕ = c.ends-tail.result.1 in
@@ -123,13 +123,13 @@ returns c =
       settled = tt;
       conflict = record {
         there = λ l m is.
-            let arcs = c.args.problem.now.formula.net.arcs in
+            let arcs = c.args.fitted.now.formula.net.arcs in
             let arc = subst (λ net. slice_get net.arcs c.args.arc ≡ Some c.ends-tail.result) c.digraph.ensures c.ends-tail.ensures.arc in
             let parts = some_pair_parts l c.ends-tail.result.0 m c.ends-tail.result.1 (sym is ∙ arc) in
             let led = subst (λ o. IfSome o (λ found. IsLed arcs found c.ends-tail.result.1 (opposite_node c.ends-tail.result.1))) c.in-Some.is c.in_ok-mend.ensures.way in
             subst (λ n. IsLed arcs c.in-Some.way n (opposite_node n)) (sym parts.1) led;
         rest = λ l m is.
-            let arcs = c.args.problem.now.formula.net.arcs in
+            let arcs = c.args.fitted.now.formula.net.arcs in
             let tail : ℕ = c.ends-tail.result.0 in
             let arc = subst (λ net. slice_get net.arcs c.args.arc ≡ Some c.ends-tail.result) c.digraph.ensures c.ends-tail.ensures.arc in
             let parts = some_pair_parts l tail m c.ends-tail.result.1 (sym is ∙ arc) in

@@ -46,7 +46,7 @@ returns c =
 
 pub returns-then-not-holds : goal.returns-then-not-holds
 returns-then-not-holds c =
-    let arcs = c.args.problem.now.formula.net.arcs in
+    let arcs = c.args.fitted.now.formula.net.arcs in
     let old = c.args.state.now.ends in
     let tail : ℕ = c.ends-tail.result.0 in
     let head : ℕ = c.ends-tail.result.1 in

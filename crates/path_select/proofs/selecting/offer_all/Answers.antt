@@ -4,7 +4,7 @@ use Rattle.relationships.specs.declared.fate.Fate.{Fate}
 use Rattle.relationships.specs.Fates.{walk_of}
 use Rattle.path_offer.specs.Choices.{Choice}
 use Rattle.tor_mend.specs.Refusals.{AreRefused}
-use Rattle.path_select.proofs.Selections.{IsSoFar, next_at, none_so_far, same_so_far, keeps_rest, lost_rest, kept_rest}
+use Rattle.path_select.proofs.Selections.{IsSoFar, next_at, none_so_far, selects_rest}
 use Rattle.tor_mend.proofs.Relinking.{none_refused}
 use Rattle.path_select.proofs.selecting.offer_all.Goals as goal
 
@@ -46,33 +46,9 @@ loop-place-preserved c =
       refused = subst (λ fates. AreRefused graph c.offer.new.selector.formula.paths fates c.offer.new.refusals.items.items) added refused;
     }
 
-pub returns-clause-same : goal.returns-clause-same
-returns-clause-same c =
+pub returns : goal.returns
+returns c =
     let end = c.loop-place-test.false in
     let le = c.loop-place.auto.place-end in
-    same_so_far c.args.graph.now c.args.selector.now.formula.paths c.args.fates.now c.loop-place.place c.args.count c.loop-place.fates c.loop-place.selector.formula
-    (omega (arith, end, le)) c.loop-place.invariant.so
-
-pub returns-clause-keeps : goal.returns-clause-keeps
-returns-clause-keeps c =
-    let end = c.loop-place-test.false in
-    let le = c.loop-place.auto.place-end in
-    keeps_rest c.args.graph.now c.args.selector.now.formula.paths c.args.fates.now c.loop-place.place c.args.count c.loop-place.fates c.loop-place.selector.formula
-    (omega (arith, end, le)) c.loop-place.invariant.so
-
-pub returns-clause-lost : goal.returns-clause-lost
-returns-clause-lost c =
-    let end = c.loop-place-test.false in
-    let le = c.loop-place.auto.place-end in
-    lost_rest c.args.graph.now c.args.selector.now.formula.paths c.args.fates.now c.loop-place.place c.args.count c.loop-place.fates c.loop-place.selector.formula
-    (omega (arith, end, le)) c.loop-place.invariant.so
-
-pub returns-clause-kept : goal.returns-clause-kept
-returns-clause-kept c =
-    let end = c.loop-place-test.false in
-    let le = c.loop-place.auto.place-end in
-    kept_rest c.args.graph.now c.args.selector.now.formula.paths c.args.fates.now c.loop-place.place c.args.count c.loop-place.fates c.loop-place.selector.formula
-    (omega (arith, end, le)) c.loop-place.invariant.so
-
-pub returns-clause-fits : goal.returns-clause-fits
-returns-clause-fits c = c.loop-place.invariant.so.fits
+    selects_rest c.args.graph.now c.args.selector.now c.loop-place.selector c.args.fates.now c.loop-place.place c.args.count c.loop-place.fates (omega (arith, end, le))
+    c.loop-place.invariant.so

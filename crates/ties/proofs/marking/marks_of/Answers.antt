@@ -12,13 +12,13 @@ forced-requires-clause-labels c =
 
 pub forced-requires-clause-served : goal.forced-requires-clause-served
 forced-requires-clause-served c =
-    labels_serve c.args.graph.now c.args.clauses.now.paths c.args.orientation.now c.in_ok-labels.labels c.requires.fits.there c.requires.many
+    labels_serve c.args.fitted.now.graph c.args.fitted.now.formula.paths c.args.orientation.now c.in_ok-labels.labels c.facts.ensures.fits.there c.requires.many
     (c.in_ok-labels.ensures ∙ ap (map label_of) c.as_slice.ensures) c.requires.served
 
 pub returns : goal.returns
 returns c =
     let ends = c.args.orientation.now in
     let labels = c.in_ok-labels.labels in
-    let labelled : length labels ≡ length (edges c.args.graph.now) =
+    let labelled : length labels ≡ length (edges c.args.fitted.now.graph) =
     ap length (c.in_ok-labels.ensures ∙ ap (map label_of) c.as_slice.ensures) ∙ length-map ends label_of ∙ c.requires.many in
-    c.marks_law.ensures c.args.graph.now c.args.clauses.now labels c.in_ok-found.found labelled c.in_ok-found.ensures.many c.in_ok-found.ensures.marks
+    c.marks_law.ensures c.args.fitted.now.graph c.args.fitted.now.formula labels c.in_ok-found.found labelled c.in_ok-found.ensures.many c.in_ok-found.ensures.marks

@@ -5,7 +5,7 @@ use Rattle.tor_clauses.proofs.walking.follow_way.Given as goal
 
 abbrev pub invariant-loop-arc : goal.invariant-loop-arc
 invariant-loop-arc l = record {
-  leads : (from to n : ℕ) → IsPlainWay l.clauses.net.arcs from to l.way.nodes l.way.arcs → slice_get l.way.nodes l.arc-index ≡ Some n →
-      GoesOn l.graph l.clauses l.fn.walk l.walk from n;
+  leads : (from to n : ℕ) → IsPlainWay l.fitted.formula.net.arcs from to l.way.nodes l.way.arcs → slice_get l.way.nodes l.arc-index ≡ Some n →
+      GoesOn l.fitted.graph l.fitted.formula l.fn.walk l.walk from n;
   kept : KeepsPairs l.fn.walk l.walk;
 }

@@ -1,20 +1,21 @@
 use Rattle.std.proofs.Common.{◌≡◌, ◌-◌, Some, length, refl, ap, sym, ◌∙◌, subst, arith}
 use Rattle.std.specs.Prelude.{slice_get}
 use Rattle.std.proofs.lemmas.Option.{slice_get_read, slice_get_within}
-use Rattle.tor_mend.specs.Rounds.{IsLed}
-use Rattle.tor_mend.proofs.Ways.{way_arc, some_same}
+use Rattle.tor_clauses.specs.Rounds.{IsLed}
+use Rattle.tor_clauses.proofs.Leadings.{way_arc}
+use Rattle.tor_clauses.proofs.Ways.{some_same}
 use Rattle.tor_mend.proofs.known.go_along.Goals as goal
 
 pub loop-place-init : goal.loop-place-init
 loop-place-init c = record {
   within = let fits = c.requires.fits in omega (arith, fits);
-  leads = λ from to x n led begins at start way. subst (IsLed c.args.digraph.now.arcs c.args.way.now start) (some_same (sym begins ∙ at)) way;
+  leads = λ from to x n led begins at start way. subst (IsLed c.args.fitted.now.formula.net.arcs c.args.way.now start) (some_same (sym begins ∙ at)) way;
 }
 
 pub go-requires : goal.go-requires
 go-requires c =
     let items = c.as_slice-arcs.result.now in
-    let arcs = c.args.digraph.now.arcs in
+    let arcs = c.args.fitted.now.formula.net.arcs in
     let along = c.args.along.now in
     let place = c.loop-place.place in
     let arc = c.index-arcs-place.result in
@@ -27,7 +28,7 @@ go-requires c =
 pub loop-place-preserved : goal.loop-place-preserved
 loop-place-preserved c =
     let items = c.as_slice-arcs.result.now in
-    let arcs = c.args.digraph.now.arcs in
+    let arcs = c.args.fitted.now.formula.net.arcs in
     let along = c.args.along.now in
     let place = c.loop-place.place in
     let arc = c.index-arcs-place.result in

@@ -2,7 +2,7 @@ use Rattle.std.proofs.Common.{◌≡◌, ℕ, inl, inr, Some, List, length, refl
 use Rattle.std.specs.Prelude.{slice_get}
 use Rattle.std.proofs.lemmas.Bool.{cases_eq, false≢true}
 use Rattle.std.proofs.lemmas.Option.{slice_get_read, slice_get_within}
-use Rattle.tor_mend.proofs.Ways.{some_same}
+use Rattle.tor_clauses.proofs.Ways.{some_same}
 use Rattle.tor_mend.proofs.known.is_early.Goals as goal
 
 pub loop-arc-init : goal.loop-arc-init

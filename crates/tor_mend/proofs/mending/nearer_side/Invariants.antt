@@ -1,5 +1,5 @@
-use Rattle.tor_mend.specs.Trails.{IsMarked}
+use Rattle.std.proofs.Common.{◌≡◌}
 use Rattle.tor_mend.proofs.mending.nearer_side.Given as goal
 
 abbrev pub invariant-loop : goal.invariant-loop
-invariant-loop l = IsMarked l.problem.formula.net.nodes l.trail.nodes
+invariant-loop l = l.trail.nodes.count ≡ l.fitted.formula.net.nodes

@@ -9,7 +9,7 @@ use Rattle.tor_clauses.specs.Tables.{lit_at}
 use Rattle.tor_clauses.proofs.Adding.{get_from_or}
 use Rattle.tor_clauses.proofs.LiteralLemmas.{lit_of_node}
 use Rattle.tor_mend.specs.Refusals.{node_at}
-use Rattle.tor_mend.proofs.Ways.{some_same}
+use Rattle.tor_clauses.proofs.Ways.{some_same}
 use Rattle.tor_mend.proofs.refusals.are_satisfied.Goals as goal
 
 split : (a b d : Bool) → (a && (not b || d)) ≡ true → (a ≡ true) × (b ≡ true → d ≡ true)

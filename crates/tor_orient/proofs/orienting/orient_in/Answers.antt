@@ -16,44 +16,44 @@ pub returns-clause-many : goal.returns-clause-many
 returns-clause-many c =
     let settled = c.in_ok-settled.settled.items in
     let count = c.edge_count.result in
-    IfOk-weaker c.settled_ends.result (λ (o : List End). (length o ≡ count) × AreEndsOf settled o) (λ (o : List End). length o ≡ length (edges c.args.graph.now))
-    (λ o is. is.0 ∙ c.edge_count.ensures.count) c.settled_ends.ensures
+    IfOk-weaker c.settled_ends.result (λ (o : List End). (length o ≡ count) × AreEndsOf settled o) (λ (o : List End). length o ≡ length (edges c.args.fitted.now.graph))
+    (λ o is. is.0 ∙ c.edge_count.ensures) c.settled_ends.ensures
 
 pub returns-clause-serves : goal.returns-clause-serves
 returns-clause-serves c =
-    let graph = c.args.graph.now in
-    let f = c.args.clauses.now in
+    let graph = c.args.fitted.now.graph in
+    let f = c.args.fitted.now.formula in
     let settled = c.in_ok-settled.settled in
     let count = c.edge_count.result in
     IfOk-weaker c.settled_ends.result (λ (o : List End). (length o ≡ count) × AreEndsOf settled.items o) (IsServed graph f.paths)
-    (λ o is. serves graph f c.facts.ensures.apart c.requires.fits c.args.prefs.now settled o c.in_ok-settled.ensures c.requires.inside c.requires.each (is.0 ∙ c.edge_count.ensures.count) is.1
+    (λ o is. serves graph f c.facts.ensures.apart c.facts.ensures.fits c.args.prefs.now settled o c.in_ok-settled.ensures c.requires.inside c.requires.each (is.0 ∙ c.edge_count.ensures) is.1
     c.model_law.ensures)
     c.settled_ends.ensures
 
 pub returns-clause-preferred : goal.returns-clause-preferred
 returns-clause-preferred c =
-    let graph = c.args.graph.now in
-    let f = c.args.clauses.now in
+    let graph = c.args.fitted.now.graph in
+    let f = c.args.fitted.now.formula in
     let prefs = c.args.prefs.now in
     let es = edges graph in
     let settled = c.in_ok-settled.settled in
     let count = c.edge_count.result in
     IfOk-weaker c.settled_ends.result (λ (o : List End). (length o ≡ count) × AreEndsOf settled.items o)
     (λ (o : List End). IsPreferred (paths_at graph f.paths) (wish es prefs) (edges_preferred es prefs) (orientation es o))
-    (λ o is. preferred graph f c.facts.ensures.apart c.requires.fits prefs settled o c.in_ok-settled.ensures c.requires.inside c.requires.each (is.0 ∙ c.edge_count.ensures.count) is.1
+    (λ o is. preferred graph f c.facts.ensures.apart c.facts.ensures.fits prefs settled o c.in_ok-settled.ensures c.requires.inside c.requires.each (is.0 ∙ c.edge_count.ensures) is.1
     c.model_law.ensures (wish es prefs) (wishes graph prefs c.requires.inside c.requires.apart))
     c.settled_ends.ensures
 
 pub returns-clause-wishes : goal.returns-clause-wishes
 returns-clause-wishes c =
-    let graph = c.args.graph.now in
-    let f = c.args.clauses.now in
+    let graph = c.args.fitted.now.graph in
+    let f = c.args.fitted.now.formula in
     let prefs = c.args.prefs.now in
     let es = edges graph in
     let settled = c.in_ok-settled.settled in
     let count = c.edge_count.result in
     IfOk-weaker c.settled_ends.result (λ (o : List End). (length o ≡ count) × AreEndsOf settled.items o)
     (λ (o : List End). (wanted : Edge → End) → AreWishes es prefs wanted → IsPreferred (paths_at graph f.paths) wanted (edges_preferred es prefs) (orientation es o))
-    (λ o is. preferred graph f c.facts.ensures.apart c.requires.fits prefs settled o c.in_ok-settled.ensures c.requires.inside c.requires.each (is.0 ∙ c.edge_count.ensures.count) is.1
+    (λ o is. preferred graph f c.facts.ensures.apart c.facts.ensures.fits prefs settled o c.in_ok-settled.ensures c.requires.inside c.requires.each (is.0 ∙ c.edge_count.ensures) is.1
     c.model_law.ensures)
     c.settled_ends.ensures

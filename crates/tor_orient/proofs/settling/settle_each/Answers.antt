@@ -17,8 +17,8 @@ settle-requires-clause-closed c = subst (λ (n : Net ℕ). NoneLeadsOut n.arcs c
 
 pub loop-place-preserved : goal.loop-place-preserved
 loop-place-preserved c =
-    let graph = c.args.graph.now in
-    let f = c.args.clauses.now in
+    let graph = c.args.fitted.now.graph in
+    let f = c.args.fitted.now.formula in
     let prefs = c.args.prefs.now in
     let place = c.loop-place.place in
     let p = c.index-prefs-place.result in
@@ -33,7 +33,7 @@ loop-place-preserved c =
     let settled = subst (λ (n : Net ℕ). IsSettledBy n.arcs (node_wanted p) old.items new.items) c.requires.rows c.in_ok-settle.ensures.settled in
     record {
       search = (c.settle.ensures.search.0 ∙ nodes, c.settle.ensures.search.1 ∙ nodes);
-      settled = settled_next f prefs place old new p c.facts-2.ensures.partners (one_way graph f c.facts.ensures.apart c.requires.fits c.requires.servable)
-          (subst (IsInside (λ n. n)) c.requires.rows c.node_count.ensures.inside) (opposites_there (length (edges graph)) f.net.nodes c.requires.fits.nodes)
-          (wanted_there p (length (edges graph)) f.net.nodes c.requires.fits.nodes below) c.loop-place.invariant.settled at (c.settle.ensures.count ∙ nodes) closed settled;
+      settled = settled_next f prefs place old new p c.facts.ensures.partners (one_way graph f c.facts.ensures.apart c.facts.ensures.fits c.requires.servable)
+          (subst (IsInside (λ n. n)) c.requires.rows c.node_count.ensures.inside) (opposites_there (length (edges graph)) f.net.nodes c.facts.ensures.fits.nodes)
+          (wanted_there p (length (edges graph)) f.net.nodes c.facts.ensures.fits.nodes below) c.loop-place.invariant.settled at (c.settle.ensures.count ∙ nodes) closed settled;
     }

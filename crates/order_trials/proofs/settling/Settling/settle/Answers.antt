@@ -9,7 +9,8 @@ use Rattle.tor_digraph.proofs.Closings.{no_arc, reaches_itself}
 use Rattle.tor_clauses.specs.Literals.{opposite_node}
 use Rattle.tor_clauses.proofs.LiteralLemmas.{opposite_node-other}
 use Rattle.tor_digraph.specs.Spreading.{IsClosed}
-use Rattle.order_trials.specs.Trials.{IsClash, AreAllPassed}
+use Rattle.tor_clauses.specs.Rounds.{IsClash}
+use Rattle.order_trials.specs.Trials.{AreAllPassed}
 use Rattle.order_trials.proofs.Helds.{held_along}
 use Rattle.order_trials.proofs.Showings.{grown-cases}
 use Rattle.order_trials.proofs.Settlings.{together_more, together_kept}

@@ -1,4 +1,5 @@
 use Rattle.std.proofs.Common.{◌≡◌, ◌++◌, ◌∷◌, [], ◌∙◌, sym, ap, subst}
+use Rattle.std.proofs.lemmas.Result.{IfOk-from_err}
 use Rattle.relationships.specs.Selection.{IsServable}
 use Rattle.as_graph.specs.Paths.{paths_at}
 use Rattle.tor_clauses.specs.Formulas.{Formula, FitsGraph}
@@ -6,7 +7,7 @@ use Rattle.tor_clauses.specs.Triples.{AreAmong, triples_on}
 use Rattle.path_offer.specs.Choices.{Choice}
 use Rattle.path_offer.specs.Inside.{IsKeeping}
 use Rattle.path_offer.proofs.Keepings.{servable}
-use Rattle.path_offer.proofs.Outcomes.{not_ok, at_error, kept_still}
+use Rattle.path_offer.proofs.Outcomes.{at_error, kept_still}
 use Rattle.path_offer.proofs.selector.Selector.keep.Goals as goal
 
 pub add_path-requires : goal.add_path-requires
@@ -26,8 +27,8 @@ returns-in_err-add_path c =
     let is = c.from_residual.ensures.0 in
     record {
       fits = c.add_path.ensures.fits;
-      kept = not_ok r _ is;
-      served = not_ok r _ is;
+      kept = IfOk-from_err r _ is;
+      served = IfOk-from_err r _ is;
       ends = ap (λ v. v.ends) c.self.view_is;
       err = at_error r _ (ap (λ (h : Formula). record { formula = h; ends = c.self.inside.state.ends }) c.in_err-add_path.ensures.err ∙ c.self.view_is);
     }

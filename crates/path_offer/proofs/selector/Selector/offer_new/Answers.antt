@@ -1,18 +1,17 @@
-use Rattle.std.proofs.Common.{◌≡◌, take, ◌*◌, ◌++◌, ◌∷◌, [], ◌∙◌, List, length, refl, sym, ap, ap₂, subst, arith}
+use Rattle.std.proofs.Common.{◌≡◌, take, ◌*◌, ◌≤◌, ◌++◌, ◌∷◌, [], ◌∙◌, List, length, refl, sym, ap, ap₂, subst, arith}
 use Rattle.std.proofs.lemmas.Result.{IfOk-from_err}
 use Rattle.std.specs.Prelude.{IfNone, IfSome}
 use Rattle.std.proofs.lemmas.Bool.{false≢true}
 use Rattle.relationships.specs.Evidence.{Refutes}
 use Rattle.relationships.specs.Selection.{IsServable}
 use Rattle.as_graph.specs.Paths.{paths_at}
-use Rattle.tor_clauses.specs.Formulas.{Formula, FitsGraph, IsMark, IsServed, first_of, numbered}
+use Rattle.tor_clauses.specs.Formulas.{Fit, Formula, FitsGraph, IsMark, IsServed, first_of, numbered}
 use Rattle.tor_clauses.specs.Triples.{AreAmong, triples_on}
 use Rattle.path_offer.specs.Inside.{IsKeeping}
 use Rattle.tor_clauses.specs.declared.clauses.ClauseMark.{ClauseMark}
-use Rattle.tor_mend.specs.Posing.{Posed, first_open}
 use Rattle.path_offer.specs.Repairs.{AreMet, IsRepaired, Repairs}
 use Rattle.tor_mend.specs.Mends.{IsState}
-use Rattle.tor_mend.specs.Rounds.{AreKnown}
+use Rattle.tor_mend.specs.Ways.{AreKnown}
 use Rattle.tor_mend.proofs.Knowing.{known_added}
 use Rattle.tor_mend.specs.Mends.{flipped_back}
 use Rattle.path_offer.specs.Choices.{Choice, ChangesFrom}
@@ -46,27 +45,24 @@ returns-in_err-add_path c =
       err = at_error r _ (ap (λ (h : Formula). choice h c.self.inside.state.ends) c.in_err-add_path.ensures.err ∙ c.self.view_is);
     }
 
-pub new-problem-requires : goal.new-problem-requires
-new-problem-requires c =
-    let stay = triples_stay c.self.inside.clauses c.add_path.new.self _ c.in_ok-add_path.ensures.prefix in
-    let count = ap (λ (m : ClauseMark). m.triples) c.mark-mark.ensures in
-    record { fits = c.in_ok-add_path.ensures.fits; settled = omega (arith, stay, count) }
-
 pub repair-requires : goal.repair-requires
 repair-requires c =
     let f = c.self.inside.clauses in
     let g = c.add_path.new.self in
     let s = c.self.inside.state in
     let prefix = c.in_ok-add_path.ensures.prefix in
-    let posed = sym c.new-problem.ensures in
+    let stay = triples_stay f g _ prefix in
+    let marked = ap (λ (m : ClauseMark). m.triples) c.mark-mark.ensures in
+    let posed = sym c.new-fitted.ensures in
     let nodes : f.net.nodes ≡ g.net.nodes = sym (ap (λ (h : Formula). h.net.nodes) prefix) in
     let count : length f.net.arcs ≡ c.mark-mark.result.triples * 2 = sym (arcs_marked f c.mark-mark.result c.facts-2.ensures.arcs c.mark-mark.ensures) in
     let met = subst (λ n. AreMet g.net.arcs n s.ends) count (arcs_met f g _ prefix s.ends c.self.invariant.model) in
     let known = subst (λ n. AreKnown g.net.arcs n s.known) count (known_added f g _ prefix s.known c.self.invariant.known) in
     record {
-      state = subst (λ (p : Posed). IsState p.formula.net.nodes s) posed (subst (λ n. IsState n s) nodes c.self.invariant.state);
-      met = subst (λ (p : Posed). AreMet p.formula.net.arcs (first_open p) s.ends) posed met;
-      known = subst (λ (p : Posed). AreKnown p.formula.net.arcs (first_open p) s.known) posed known;
+      there = subst (λ (p : Fit). c.mark-mark.result.triples ≤ length p.formula.triples) posed (omega (arith, stay, marked));
+      state = subst (λ (p : Fit). IsState p.formula.net.nodes s) posed (subst (λ n. IsState n s) nodes c.self.invariant.state);
+      met = subst (λ (p : Fit). AreMet p.formula.net.arcs (c.mark-mark.result.triples * 2) s.ends) posed met;
+      known = subst (λ (p : Fit). AreKnown p.formula.net.arcs (c.mark-mark.result.triples * 2) s.known) posed known;
     }
 
 pub flip_back-requires : goal.flip_back-requires
@@ -86,12 +82,12 @@ invariant_of-self-in-Ok-None c =
     let f = c.self.inside.clauses in
     let g = c.add_path.new.self in
     let s = c.repair.new.state in
-    let posed = c.new-problem.result in
-    let done = subst (λ o. IfNone o (Repairs posed.formula.net.arcs (first_open posed) c.self.inside.state s)) c.in-Ok-None.field-0-is c.in-Ok-None.ensures.repaired in
-    let repaired = subst (λ (p : Posed). Repairs p.formula.net.arcs (first_open p) c.self.inside.state s) c.new-problem.ensures done in
+    let posed = c.new-fitted.result in
+    let done = subst (λ o. IfNone o (Repairs posed.formula.net.arcs (c.mark-mark.result.triples * 2) c.self.inside.state s)) c.in-Ok-None.field-0-is c.in-Ok-None.ensures.repaired in
+    let repaired = subst (λ (p : Fit). Repairs p.formula.net.arcs (c.mark-mark.result.triples * 2) c.self.inside.state s) c.new-fitted.ensures done in
     let count : (c.mark-mark.result.triples * 2) ≡ length f.net.arcs = arcs_marked f c.mark-mark.result c.facts-2.ensures.arcs c.mark-mark.ensures in
-    let known = subst (λ n. AreKnown g.net.arcs n s.known) count (subst (λ (p : Posed). AreKnown p.formula.net.arcs (first_open p) s.known) c.new-problem.ensures c.repair.ensures.known) in
-    let state = subst (λ (p : Posed). IsState p.formula.net.nodes s) c.new-problem.ensures c.repair.ensures.state in
+    let known = subst (λ n. AreKnown g.net.arcs n s.known) count (subst (λ (p : Fit). AreKnown p.formula.net.arcs (c.mark-mark.result.triples * 2) s.known) c.new-fitted.ensures c.repair.ensures.known) in
+    let state = subst (λ (p : Fit). IsState p.formula.net.nodes s) c.new-fitted.ensures c.repair.ensures.state in
     kept_on f g _ c.in_ok-add_path.ensures.prefix s c.clear.new.self c.clear.ensures state repaired.met known
 
 pub invariant_of-self-in-Ok-Some : goal.invariant_of-self-in-Ok-Some
@@ -100,9 +96,9 @@ invariant_of-self-in-Ok-Some c =
     let g = c.add_path.new.self in
     let s = c.repair.new.state in
     let count : (c.mark-mark.result.triples * 2) ≡ length f.net.arcs = arcs_marked f c.mark-mark.result c.facts-2.ensures.arcs c.mark-mark.ensures in
-    let known = subst (λ n. AreKnown g.net.arcs n s.known) count (subst (λ (p : Posed). AreKnown p.formula.net.arcs (first_open p) s.known) c.new-problem.ensures c.repair.ensures.known) in
+    let known = subst (λ n. AreKnown g.net.arcs n s.known) count (subst (λ (p : Fit). AreKnown p.formula.net.arcs (c.mark-mark.result.triples * 2) s.known) c.new-fitted.ensures c.repair.ensures.known) in
     let cut = c.undo_to.ensures.first ∙ ap (first_of g) c.mark-mark.ensures ∙ c.in_ok-add_path.ensures.prefix in
-    let state = subst (λ (p : Posed). IsState p.formula.net.nodes s) c.new-problem.ensures c.repair.ensures.state in
+    let state = subst (λ (p : Fit). IsState p.formula.net.nodes s) c.new-fitted.ensures c.repair.ensures.state in
     kept_back f g _ c.in_ok-add_path.ensures.prefix s c.self.inside.state c.undo_to.new.self c.flip_back.new.ends c.flip_back.new.flips cut c.self.invariant state known
     c.repair.ensures.back c.flip_back.ensures.ends c.flip_back.ensures.none
 
@@ -112,10 +108,10 @@ invariant_of-self-in-Err c =
     let g = c.add_path.new.self in
     let s = c.repair.new.state in
     let count : (c.mark-mark.result.triples * 2) ≡ length f.net.arcs = arcs_marked f c.mark-mark.result c.facts-2.ensures.arcs c.mark-mark.ensures in
-    let known = subst (λ n. AreKnown g.net.arcs n s.known) count (subst (λ (p : Posed). AreKnown p.formula.net.arcs (first_open p) s.known) c.new-problem.ensures c.repair.ensures.known) in
+    let known = subst (λ n. AreKnown g.net.arcs n s.known) count (subst (λ (p : Fit). AreKnown p.formula.net.arcs (c.mark-mark.result.triples * 2) s.known) c.new-fitted.ensures c.repair.ensures.known) in
     let cut = c.undo_to-in-Err.ensures.first ∙ ap (first_of g) c.mark-mark.ensures ∙ c.in_ok-add_path.ensures.prefix in
     kept_back f g _ c.in_ok-add_path.ensures.prefix s c.self.inside.state c.undo_to-in-Err.new.self c.flip_back-in-Err.new.ends
-    c.flip_back-in-Err.new.flips cut c.self.invariant (subst (λ (p : Posed). IsState p.formula.net.nodes s) c.new-problem.ensures c.repair.ensures.state) known
+    c.flip_back-in-Err.new.flips cut c.self.invariant (subst (λ (p : Fit). IsState p.formula.net.nodes s) c.new-fitted.ensures c.repair.ensures.state) known
     c.repair.ensures.back c.flip_back-in-Err.ensures.ends c.flip_back-in-Err.ensures.none
 
 pub returns-in-Ok-None : goal.returns-in-Ok-None
@@ -127,11 +123,11 @@ returns-in-Ok-None c =
     let new = c.repair.new.state.ends in
     let ends : old ≡ c.args.self.now.ends = ap (λ v. v.ends) c.self.view_is in
     let fits = subst (FitsGraph graph) (sym (ap (λ v. v.formula) c.self.view_is)) c.requires.fits in
-    let posed = c.new-problem.result in
+    let posed = c.new-fitted.result in
     let s = c.repair.new.state in
-    let done = subst (λ o. IfNone o (Repairs posed.formula.net.arcs (first_open posed) c.self.inside.state s)) c.in-Ok-None.field-0-is c.in-Ok-None.ensures.repaired in
-    let repaired = subst (λ (p : Posed). Repairs p.formula.net.arcs (first_open p) c.self.inside.state s) c.new-problem.ensures done in
-    let ends_of = ap (λ (p : Posed). p.formula.net.nodes) c.new-problem.ensures in
+    let done = subst (λ o. IfNone o (Repairs posed.formula.net.arcs (c.mark-mark.result.triples * 2) c.self.inside.state s)) c.in-Ok-None.field-0-is c.in-Ok-None.ensures.repaired in
+    let repaired = subst (λ (p : Fit). Repairs p.formula.net.arcs (c.mark-mark.result.triples * 2) c.self.inside.state s) c.new-fitted.ensures done in
+    let ends_of = ap (λ (p : Fit). p.formula.net.nodes) c.new-fitted.ensures in
     let count : (c.mark-mark.result.triples * 2) ≡ length f.net.arcs = arcs_marked f c.mark-mark.result c.facts-2.ensures.arcs c.mark-mark.ensures in
     let from = subst (λ n. IsRepaired g.net.arcs n (length g.net.arcs) old new) count repaired in
     let paths = c.in_ok-add_path.ensures.paths ∙ ap (λ v. v.formula.paths ++ c.args.path ∷ []) c.self.view_is in
@@ -157,9 +153,9 @@ returns-in-Ok-Some c =
     let f = c.add_path.new.self in
     let old = c.self.inside.state.ends in
     let paths = c.in_ok-add_path.ensures.paths ∙ ap (λ v. v.formula.paths ++ c.args.path ∷ []) c.self.view_is in
-    let posed = c.new-problem.result in
+    let posed = c.new-fitted.result in
     let walk = subst (λ o. IfSome o (Refutes (numbered posed.graph posed.formula.paths))) c.in-Ok-Some.field-0-is c.in-Ok-Some.ensures.walk in
-    let refutes = subst (λ (p : Posed). Refutes (numbered p.graph p.formula.paths) c.in-Ok-Some.walk) c.new-problem.ensures walk in
+    let refutes = subst (λ (p : Fit). Refutes (numbered p.graph p.formula.paths) c.in-Ok-Some.walk) c.new-fitted.ensures walk in
     let cut : c.undo_to.new.self ≡ c.self.inside.clauses = c.undo_to.ensures.first ∙ ap (first_of f) c.mark-mark.ensures ∙ c.in_ok-add_path.ensures.prefix in
     let ends : c.flip_back.new.ends ≡ old = c.flip_back.ensures.ends ∙ c.repair.ensures.back ∙ ap (flipped_back old) c.self.invariant.none in
     let back : choice c.undo_to.new.self c.flip_back.new.ends ≡ c.args.self.now = ap₂ choice cut ends ∙ c.self.view_is in

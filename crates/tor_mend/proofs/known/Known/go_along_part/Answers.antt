@@ -5,8 +5,8 @@ use Rattle.std.proofs.lemmas.Result.{on_ok_weaker}
 use Rattle.tor_digraph.specs.declared.way.Way.{Way}
 use Rattle.tor_clauses.specs.Literals.{opposite_node}
 use Rattle.tor_mend.specs.declared.known.Part.{Part}
-use Rattle.tor_mend.specs.Rounds.{IsPart, IsPartOf}
-use Rattle.tor_mend.proofs.Ways.{some_same}
+use Rattle.tor_mend.specs.Ways.{IsPart, IsPartOf}
+use Rattle.tor_clauses.proofs.Ways.{some_same}
 use Rattle.tor_mend.proofs.Knowing.{part_at, way_of_part}
 use Rattle.tor_mend.proofs.known.Known.go_along_part.Goals as goal
 
@@ -14,7 +14,7 @@ pub returns : goal.returns
 returns c =
     on_ok_weaker c.go_along.result
     (λ on node found.
-    let arcs = c.args.digraph.now.arcs in
+    let arcs = c.args.fitted.now.formula.net.arcs in
     let known = c.requires.known.1 node c.args.place found in
     let parts : List Part = c.as_slice.result.now in
     let part : Part = slice_index_or parts c.args.place (record { way = 0; skip = 0 }) in
@@ -32,17 +32,17 @@ returns c =
 
 pub bounds-as_slice-place : goal.bounds-as_slice-place
 bounds-as_slice-place c =
-    (part_at c.args.digraph.now.arcs c.args.self.now c.args.place c.as_slice.result.now c.as_slice.ensures c.requires.there c.requires.known).0
+    (part_at c.args.fitted.now.formula.net.arcs c.args.self.now c.args.place c.as_slice.result.now c.as_slice.ensures c.requires.there c.requires.known).0
 
 pub bounds-as_slice-part : goal.bounds-as_slice-part
 bounds-as_slice-part c =
-    let arcs = c.args.digraph.now.arcs in
+    let arcs = c.args.fitted.now.formula.net.arcs in
     let of = (part_at arcs c.args.self.now c.args.place c.as_slice.result.now c.as_slice.ensures c.requires.there c.requires.known).1 in
     (way_of_part arcs of.0 of.1 _ c.args.self.now.ways c.as_slice-2.result.now c.as_slice-2.ensures of.2).0
 
 pub go_along-requires-clause-led : goal.go_along-requires-clause-led
 go_along-requires-clause-led c =
-    let arcs = c.args.digraph.now.arcs in
+    let arcs = c.args.fitted.now.formula.net.arcs in
     let of = (part_at arcs c.args.self.now c.args.place c.as_slice.result.now c.as_slice.ensures c.requires.there c.requires.known).1 in
     let part : Part = slice_index_or c.as_slice.result.now c.args.place (record { way = 0; skip = 0 }) in
     let way = way_of_part arcs of.0 of.1 part c.args.self.now.ways c.as_slice-2.result.now c.as_slice-2.ensures of.2 in
@@ -51,7 +51,7 @@ go_along-requires-clause-led c =
 
 pub go_along-requires-clause-fits : goal.go_along-requires-clause-fits
 go_along-requires-clause-fits c =
-    let arcs = c.args.digraph.now.arcs in
+    let arcs = c.args.fitted.now.formula.net.arcs in
     let of = (part_at arcs c.args.self.now c.args.place c.as_slice.result.now c.as_slice.ensures c.requires.there c.requires.known).1 in
     let part : Part = slice_index_or c.as_slice.result.now c.args.place (record { way = 0; skip = 0 }) in
     let way = way_of_part arcs of.0 of.1 part c.args.self.now.ways c.as_slice-2.result.now c.as_slice-2.ensures of.2 in

@@ -7,8 +7,8 @@ use Rattle.tor_clauses.specs.Literals.{opposite_node}
 use Rattle.tor_clauses.proofs.Adding.{get_from_or}
 use Rattle.tor_mend.specs.declared.known.Part.{Part}
 use Rattle.tor_mend.specs.declared.known.Known.{Known}
-use Rattle.tor_mend.specs.Rounds.{IsPart}
-use Rattle.tor_mend.proofs.Ways.{way_inside}
+use Rattle.tor_mend.specs.Ways.{IsPart}
+use Rattle.tor_mend.proofs.Knowing.{way_inside}
 use Rattle.tor_mend.proofs.Knowing.{known_part}
 use Rattle.tor_mend.proofs.known.Known.remember_parts.Goals as goal
 
@@ -29,14 +29,14 @@ put-requires c =
     let long = ap length c.as_slice-nodes.ensures in
     let more = c.requires.led.2.one_more in
     let at = read_at way.nodes c.as_slice-nodes.result.now skip from c.as_slice-nodes.ensures (omega (arith, lt)) c.index-nodes-skip.is in
-    let inside = way_inside c.args.digraph.now.arcs c.args.digraph.now.nodes c.node_count.ensures.inside.tails c.requires.led.0 c.requires.led.1 way c.requires.led.2 skip from
+    let inside = way_inside c.args.fitted.now.formula.net.arcs c.args.fitted.now.formula.net.nodes c.facts.ensures.inside.tails c.requires.led.0 c.requires.led.1 way c.requires.led.2 skip from
     (omega (arith, lt, long, more)) at in
     let room = c.loop-skip.invariant.room in
     omega (arith, inside, room)
 
 pub loop-skip-preserved : goal.loop-skip-preserved
 loop-skip-preserved c =
-    let arcs = c.args.digraph.now.arcs in
+    let arcs = c.args.fitted.now.formula.net.arcs in
     let items = c.as_slice-nodes.result.now in
     let way : Way ℕ ℕ = c.args.way.now in
     let skip = c.loop-skip.skip in
@@ -63,9 +63,9 @@ loop-skip-preserved c =
       ends = to ∙ ap (λ (n : ℕ). Some n) opposite;
     } in
     record {
-      room = subst (λ n. c.args.digraph.now.nodes ≤ n) (sym (ap length c.put.ensures.items ∙ length-set c.loop-skip.self.places.items from (Some c.in-Ok.part))) c.loop-skip.invariant.room;
+      room = subst (λ n. c.args.fitted.now.formula.net.nodes ≤ n) (sym (ap length c.put.ensures.items ∙ length-set c.loop-skip.self.places.items from (Some c.in-Ok.part))) c.loop-skip.invariant.room;
       there = c.loop-skip.invariant.there;
       known = known_part arcs c.args.first from c.in-Ok.part part way old new c.loop-skip.invariant.there is c.requires.early (c.in-Ok.ensures.1
-          ∙ c.len-in-loop-skip.ensures) refl c.in_ok-push.ensures.ok
+          ∙ c.len.ensures) refl c.in_ok-push.ensures.ok
           c.put.ensures.items c.loop-skip.invariant.known;
     }

@@ -1,6 +1,0 @@
-use Rattle.std.proofs.Common.{ℕ, ◌<◌}
-use Rattle.tor_digraph.specs.Trails.{StandsAt}
-use Rattle.order_trials.proofs.going.place_of.Given as goal
-
-abbrev pub invariant-loop-place : goal.invariant-loop-place
-invariant-loop-place l = (j : ℕ) → j < l.place → StandsAt l.tried.items j l.node → ⊥

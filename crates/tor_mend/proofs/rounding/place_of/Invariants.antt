@@ -1,6 +1,0 @@
-use Rattle.std.proofs.Common.{ℕ, ◌<◌}
-use Rattle.tor_mend.specs.Trails.{StandsAt}
-use Rattle.tor_mend.proofs.rounding.place_of.Given as goal
-
-abbrev pub invariant-loop-place : goal.invariant-loop-place
-invariant-loop-place l = (j : ℕ) → j < l.place → StandsAt l.visited.items j l.node → ⊥
