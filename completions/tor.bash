@@ -5,10 +5,11 @@ _tor() {
     COMPREPLY=()
     case $before in
         --as-sets) mapfile -t COMPREPLY < <(compgen -W 'cut skip' -- "${word#=}") ;;
+        --order) mapfile -t COMPREPLY < <(compgen -W 'seen short' -- "${word#=}") ;;
         --ratio | --max-paths | --sample) compopt +o default ;;
         *)
             case $word in
-                -*) mapfile -t COMPREPLY < <(compgen -W '--list --survey --ties --serial1 --as-sets --ratio --max-paths --sample --given --migrate --resume' -- "$word") ;;
+                -*) mapfile -t COMPREPLY < <(compgen -W '--list --survey --ties --serial1 --as-sets --ratio --max-paths --sample --given --migrate --resume --order' -- "$word") ;;
             esac ;;
     esac
 }

@@ -1,5 +1,6 @@
 -- The text of a picture: SVG 1.1 (W3C), of the elements rect, polyline and text alone.
-use Rattle.std.specs.Prelude.{ℕ, ◌+◌, ◌-◌, ◌*◌, ◌/◌, ◌^◌, ◌<◌, ◌==◌, if◌then◌else◌, List, [], ◌∷◌, ◌++◌, length, min, map, flat_map, codes, Some, None}
+use Rattle.std.specs.Prelude.{ℕ, ◌+◌, ◌-◌, ◌*◌, ◌/◌, ◌^◌, ◌<◌, ◌==◌, if◌then◌else◌, min, codes, Some, None}
+use Rattle.std.specs.Prelude.{List, [], ◌∷◌, ◌++◌, length, map, flat_map}
 use Rattle.std.specs.Fmt.{decimal}
 use Rattle.relationships.specs.declared.mark.Mark.{Mark}
 use Rattle.relationships.specs.declared.mark.Mark.TheVariants as mark
@@ -70,7 +71,8 @@ text_length room text = min room (7 * length text)
 abbrev pub text_at : ℕ → ℕ → ℕ → List ℕ → Element
 text_at x y room text = record {
   name = codes "text";
-  attributes = number_attribute (codes "x") x ∷ number_attribute (codes "y") y ∷ number_attribute (codes "textLength") (text_length room text)
+  attributes = number_attribute (codes "x") x ∷ number_attribute (codes "y") y
+      ∷ number_attribute (codes "textLength") (text_length room text)
       ∷ word_of (codes "fill") (codes "black") ∷ word_of (codes "stroke") (codes "none") ∷ [];
   inner = Some text;
 }

@@ -1,5 +1,6 @@
 -- For each edge a row of other edges, and what is reached from an edge along the rows.
-use Rattle.std.specs.Prelude.{◌≡◌, ◌⊎◌, ℕ, ◌-◌, ◌<◌, List, [], ◌∷◌, ◌++◌, length, replicate, Some, Contains, slice_get, slice_set, slice_index_or}
+use Rattle.std.specs.Prelude.{◌≡◌, ◌⊎◌, ℕ, ◌-◌, ◌<◌, List, [], ◌∷◌, ◌++◌, length, replicate}
+use Rattle.std.specs.Prelude.{Some, Contains, slice_get, slice_set, slice_index_or}
 
 -- these rows, and empty ones behind them up to so many
 abbrev pub filled_up : List (List ℕ) → ℕ → List (List ℕ)

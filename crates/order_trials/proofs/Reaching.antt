@@ -1,6 +1,6 @@
 -- Arcs that lead from one order to another, and closures.
-use Rattle.std.proofs.Common.{◌≡◌, ℕ, ◌/◌, List, Some, sym, ap, ap₂, ◌∙◌, subst, All}
-use Rattle.relationships.specs.Graph.{Edge, edge_of, edges}
+use Rattle.std.proofs.Common.{◌≡◌, ℕ, ◌/◌, List, sym, ap, ap₂, ◌∙◌, subst, All}
+use Rattle.relationships.specs.Graph.{edge_of, edges}
 use Rattle.relationships.specs.Evidence.{NeighboursDiffer, Closure, start, imply}
 use Rattle.tor_digraph.specs.Walks.{Reaches, here, along}
 use Rattle.as_graph.specs.Paths.{paths_at}

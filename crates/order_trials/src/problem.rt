@@ -41,7 +41,8 @@ impl<'a> Model for Problem<'a> {
 
     ghost view = { λ p. record { graph = p.fitted.now.graph; formula = p.fitted.now.formula; labels = p.labels.now; held = p.held.items } };
 
-    ghost invariant = { λ p. IsPosed (record { graph = p.fitted.now.graph; formula = p.fitted.now.formula; labels = p.labels.now; held = p.held.items }) ×
+    ghost invariant = { λ p.
+        IsPosed (record { graph = p.fitted.now.graph; formula = p.fitted.now.formula; labels = p.labels.now; held = p.held.items }) ×
         (p.rows.now ≡ p.fitted.now.formula.net) × (p.held.count ≡ p.fitted.now.formula.net.nodes) };
 }
 

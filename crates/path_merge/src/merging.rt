@@ -5,7 +5,8 @@
 ghost use Rattle.std.specs.Prelude.{◌≡◌, ◌+◌, ◌<◌, ◌≤◌, ◌==◌, ◌++◌, nat_eq, fold, take, vec_len, vec_capacity, IfOk, OnOk};
 ghost use Rattle.std.specs.List.{list_any, list_all, dedup};
 ghost use Rattle.path_segments.specs.PathOf.{is_confed};
-ghost use Rattle.path_merge.specs.Merging.{are_equal, is_set, is_mixed_set, ases_of, ends_behind, merged_behind, with_run, oddity_in, oddity_from_set};
+ghost use Rattle.path_merge.specs.Merging.{are_equal, is_set, is_mixed_set, ases_of, ends_behind, merged_behind, with_run};
+ghost use Rattle.path_merge.specs.Merging.{oddity_in, oddity_from_set};
 ghost use Rattle.path_merge.specs.Merging.{GoesBehind, MergesOnto};
 
 use path_segments::{NumberCursor, PathCursor, SegKind, SegmentRef};

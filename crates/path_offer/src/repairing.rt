@@ -105,7 +105,8 @@ fn settle(
     meet_or_refute(alloc, fitted, first, arc, state)
 }
 
-/// Repairs the orientation so that all triples of the clauses are satisfied, of which the first are, so many; or answers a walk that refutes, where that cannot be.
+/// Repairs the orientation so that all triples of the clauses are satisfied, of which the first are, so many; or answers a walk that
+/// refutes, where that cannot be.
 pub(crate) fn repair(
     alloc: Global,
     fitted: &Fitted<'_>,

@@ -1,5 +1,6 @@
 //! Distinct paths with their times, in an order, as a table has them, without what finds them.
-ghost use Rattle.std.specs.Prelude.{◌≡◌, ◌≤◌, ◌<◌, Some, length, option_map, slice_get, IfOk};
+ghost use Rattle.std.specs.Prelude.{◌≡◌, ◌≤◌, All, length, IfOk};
+ghost use Rattle.tor_arena.specs.Distinct.{AllDistinct};
 ghost use Rattle.path_table.specs.Rows.{row_paths, times_of};
 ghost use Rattle.path_table.specs.Inside.{counted_by};
 ghost use Rattle.path_order.specs.Orders.{ordered_behind};
@@ -53,7 +54,9 @@ impl DistinctPaths {
 
     /// What holds of the rows, as of a table's. It does nothing when it runs.
     pub fn facts(&self)
-        ensures { AreTableRows self.now }
+        ensures rows { AreTableRows self.now }
+        ensures several { All (λ path. 2 ≤ length path) (row_paths self.now) }
+        ensures apart { All AllDistinct (row_paths self.now) }
     {
         let _paths = &self.paths;
     }

@@ -1,5 +1,6 @@
 -- Rows that are found by their keys: the key of a row is its hash, or the first number after it that was no key before.
-use Rattle.std.specs.Prelude.{◌≡◌, ◌<◌, ◌≤◌, ℕ, ◌+◌, ◌/◌, ◌%◌, ◌^◌, ◌++◌, ◌∷◌, [], List, length, Bool, true, false, Option, Some, nat_eq, position}
+use Rattle.std.specs.Prelude.{◌≡◌, ◌<◌, ◌≤◌, ℕ, ◌+◌, ◌/◌, ◌%◌, ◌^◌, ◌++◌, ◌∷◌, [], List, length}
+use Rattle.std.specs.Prelude.{Bool, true, false, Option, Some, nat_eq, position}
 use Rattle.std.specs.List.{list_any}
 use Rattle.tor_arena.specs.Limits.{max_paths}
 use Rattle.path_table.specs.Chains.{path_hash, row_at}

@@ -124,8 +124,8 @@ impl IndexedPaths {
         self.seed == seed_of(keys)
     }
 
-    /// A guess for each of the hashes where a path of that hash stands, or u32::MAX. Nothing else here waits for these looks into memory, so
-    /// that they overlap. No row is looked at, and no memory is taken.
+    /// A guess for each of the hashes where a path of that hash stands, or u32::MAX. Nothing else here waits for these looks into memory,
+    /// so that they overlap. No row is looked at, and no memory is taken.
     pub fn guess_each(&self, hashes: &[u32], guesses: &mut [u32])
         requires { length guesses.old ≡ length hashes.now }
         ensures { length guesses.new ≡ length guesses.old }

@@ -18,7 +18,8 @@ pub record IsCycle (net : Net ℕ) (nodes : List ℕ) : Type 0 where
 -- all such sets, by their least nodes
 pub record AreCycles (net : Net ℕ) (rows : List (List ℕ)) : Type 0 where
   pub each : (i : ℕ) (nodes : List ℕ) → slice_get rows i ≡ Some nodes → IsCycle net nodes
-  pub all : (x y : ℕ) → x ≢ y → Reaches net.arcs x y → Reaches net.arcs y x → (i : ℕ) × (nodes : List ℕ) × (slice_get rows i ≡ Some nodes) × Has nodes x
+  pub all : (x y : ℕ) → x ≢ y → Reaches net.arcs x y → Reaches net.arcs y x →
+      (i : ℕ) × (nodes : List ℕ) × (slice_get rows i ≡ Some nodes) × Has nodes x
   pub order : (i j : ℕ) (ns ms : List ℕ) (x y : ℕ) → i < j → slice_get rows i ≡ Some ns → slice_get rows j ≡ Some ms →
       slice_get ns 0 ≡ Some x → slice_get ms 0 ≡ Some y → x < y
 

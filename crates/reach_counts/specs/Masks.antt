@@ -49,7 +49,8 @@ is_counted marks of masks j x = is_marked marks x && nat_eq (bit_at (slice_index
 
 -- each number is that of its class, for the first classes
 abbrev pub AreClassCounts : List Bool → Net ℕ → Classes → List ℕ → Type 0
-AreClassCounts marks net classes counts = (k n x : ℕ) → slice_get counts k ≡ Some n → IsOfClass classes.of x k → IsReachedCount marks net x n
+AreClassCounts marks net classes counts =
+    (k n x : ℕ) → slice_get counts k ≡ Some n → IsOfClass classes.of x k → IsReachedCount marks net x n
 
 -- ---- nodes as sources
 

@@ -1,5 +1,5 @@
 -- Which paths are kept, the order of settling, the preferred providers, the peerings and so the edge lines are determined.
-use Rattle.std.proofs.Common.{◌≡◌, ◌≢◌, ◌↔◌, ℕ, zero, suc, ◌+◌, ◌<◌, ◌⊎◌, inl, inr, Bool, true, false, not, ◌||◌, List, [], ◌∷◌, ◌++◌, length, get_or, map, Option, is_none, refl, sym, ap}
+use Rattle.std.proofs.Common.{◌≡◌, ◌≢◌, ◌↔◌, ℕ, zero, suc, ◌<◌, ◌⊎◌, inl, inr, Bool, true, false, not, ◌||◌, List, [], ◌∷◌, ◌++◌, length, get_or, map, Option, is_none, refl, sym, ap}
 use Rattle.std.proofs.Common.{ap₂, ◌∙◌, subst, arith, append_assoc, append-nil, All, Contains, IsTrue, eq-eqb, if◌then◌else◌}
 use Rattle.std.specs.List.{AllPairs, list_any, count_by}
 use Rattle.std.proofs.lemmas.Bool.{cases_Bool}

@@ -14,7 +14,7 @@ ghost use Rattle.rel_infer.specs.Peers.{PeerEitherWay, LeaveNoneOut};
 
 use crate::inferring::{Inferred, inferred_from};
 use path_clean::{Asides, Sets};
-use path_table::PathTable;
+use path_order::DistinctPaths;
 use relationships::Given;
 use result_rules::totals_of;
 use result_text::{PathLines, ResultFile};
@@ -32,7 +32,7 @@ pub struct ResultHead {
     pub asides: Asides,
 }
 
-/// The result of the distinct paths of a table and of the counts of routes that were set aside. Each path is kept exactly if some
+/// The result of distinct paths and of the counts of routes that were set aside. Each path is kept exactly if some
 /// orientation serves it together with those kept before it; each edge has its preferred provider, and then, edge by edge, becomes a
 /// peering where its greater degree is at most `ratio` times its lesser one, from 0 to 1000000, and every kept path stays valley-free;
 /// and an edge is marked forced exactly if all orientations that serve the kept paths agree on it. `sets` is only written down. The
@@ -42,22 +42,22 @@ pub fn result_of(
     keys: Keys,
     sets: Sets,
     ratio: u32,
-    table: PathTable,
+    paths: DistinctPaths,
     asides: Asides,
 ) -> Result<ResultFile, NoMemory>
     requires { ratio ≤ max_ratio }
-    ensures result { IfOk result (IsResultOf sets ratio table.rows asides) }
+    ensures result { IfOk result (IsResultOf sets ratio paths asides) }
     ensures accepted { IfOk result Accepts }
     ensures either_way { IfOk result (λ file. PeerEitherWay (its_paths file) (its_walks file) file.edges) }
     ensures none_left_out { IfOk result (λ file. LeaveNoneOut ratio (its_paths file) (its_walks file) file.edges) }
 {
-    table.facts();
+    paths.facts();
     let head = ResultHead {
         sets,
         ratio,
         asides,
     };
-    result_with(alloc, keys, head, None, table)
+    result_with(alloc, keys, head, None, paths)
 }
 
 /// The relationships that are given, if any are.
@@ -70,7 +70,7 @@ pub(crate) fn given_slice(givens: &Option<List<Given>>) -> &[Given]
     }
 }
 
-/// The result of the distinct paths of a table under relationships that are given, if any are, at most 2^28, each of two ASes and no two
+/// The result of distinct paths under relationships that are given, if any are, at most 2^28, each of two ASes and no two
 /// of the same two. Every orientation that is asked for agrees with them, so all is as `result_of` says, but that no edge that a given
 /// names becomes a peering, and each of them is forced. Votes, degrees and supports are of the paths alone. In walks, links with path 0
 /// name givens, by their numbers from 1. The result has the givens as they came. The only error is that memory ran out.
@@ -79,19 +79,19 @@ pub fn result_with(
     keys: Keys,
     head: ResultHead,
     givens: Option<List<Given>>,
-    table: PathTable,
+    paths: DistinctPaths,
 ) -> Result<ResultFile, NoMemory>
     requires small { head.ratio ≤ max_ratio }
     requires two { NameTwo (unwrap_or givens []) }
     requires once { NameOnce (unwrap_or givens []) }
     requires few { length (unwrap_or givens []) ≤ max_givens }
-    ensures result { IfOk result (IsResultWith givens head.sets head.ratio table.rows head.asides) }
+    ensures result { IfOk result (IsResultWith givens head.sets head.ratio paths head.asides) }
     ensures either_way { IfOk result (λ file. PeerEitherWayWith (unwrap_or givens []) (its_paths file) (its_walks file) file.edges) }
     ensures none_left_out { IfOk result
         (λ file. LeaveNoneOutWith (unwrap_or givens []) head.ratio (its_paths file) (its_walks file) file.edges) }
 {
-    table.facts();
-    let (mut rows, times) = table.into_rows();
+    paths.facts();
+    let (mut rows, times) = paths.into_rows();
     let inferred = inferred_from(alloc, keys, &mut rows, given_slice(&givens), head.ratio)?;
     Ok(result_by(head, givens, rows, times, inferred))
 }

@@ -26,8 +26,8 @@ use crate::result::{ResultHead, given_slice, result_by};
 use crate::taking_up::{KeptFirst, Started, started_in};
 use as_graph::AsGraph;
 use path_clean::{Asides, Sets};
+use path_order::DistinctPaths;
 use path_select::{Selection, Selector, select_rest};
-use path_table::PathTable;
 use relationships::{Fates, Given};
 use result_text::ResultFile;
 use std::alloc::Global;
@@ -281,9 +281,9 @@ fn resumed_from(
     })
 }
 
-/// The result of the distinct paths of a table, and of counts of routes that were set aside. The first paths are those of an earlier result
-/// that meets all rules, of which this is left, with its sets and its givens, at most 2^28. All is as `result_with` says of the whole
-/// table. The first path lines are those of the earlier result but for their times: its kept paths are kept, and its lost ones lost with
+/// The result of distinct paths, and of counts of routes that were set aside. The first paths are those of an earlier result
+/// that meets all rules, of which this is left, with its sets and its givens, at most 2^28. All is as `result_with` says of all
+/// paths. The first path lines are those of the earlier result but for their times: its kept paths are kept, and its lost ones lost with
 /// the walks that they have there; only the paths behind them are offered. `ratio` is from 0 to 1000000. The only error is that memory
 /// ran out.
 pub fn result_resumed(
@@ -291,22 +291,22 @@ pub fn result_resumed(
     keys: Keys,
     ratio: u32,
     earlier: Rest,
-    table: PathTable,
+    paths: DistinctPaths,
     asides: Asides,
 ) -> Result<ResultFile, NoMemory>
     requires small { ratio ≤ max_ratio }
     requires few { length (unwrap_or earlier.givens []) ≤ max_givens }
-    requires begins { BeginsWithEarlier (row_paths table.rows) earlier }
-    ensures result { IfOk result (IsResultWith earlier.givens earlier.sets ratio table.rows asides) }
-    ensures continues { IfOk result (λ file. (old : File) → IsRestOf old earlier → BeginsWithPathsOf (row_paths table.rows) old →
+    requires begins { BeginsWithEarlier (row_paths paths) earlier }
+    ensures result { IfOk result (IsResultWith earlier.givens earlier.sets ratio paths asides) }
+    ensures continues { IfOk result (λ file. (old : File) → IsRestOf old earlier → BeginsWithPathsOf (row_paths paths) old →
         Continues old file) }
     ensures either_way { IfOk result
         (λ file. PeerEitherWayWith (unwrap_or earlier.givens []) (its_paths file) (its_walks file) file.edges) }
     ensures none_left_out { IfOk result
         (λ file. LeaveNoneOutWith (unwrap_or earlier.givens []) ratio (its_paths file) (its_walks file) file.edges) }
 {
-    table.facts();
-    let (mut rows, times) = table.into_rows();
+    paths.facts();
+    let (mut rows, times) = paths.into_rows();
     let resumed = resumed_from(alloc, keys, &mut rows, earlier, ratio)?;
     let head = ResultHead {
         sets: resumed.sets,

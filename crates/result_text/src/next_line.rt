@@ -6,7 +6,8 @@
 ghost use Rattle.std.specs.Prelude.{◌≡◌, IfOk, IfErr};
 ghost use Rattle.result_text.specs.Order.{with_line, next_at, step, Steps};
 ghost use Rattle.result_text.specs.declared.line.Line.TheVariants as line;
-ghost use Rattle.result_text.specs.Reading.{ReadsAs, by_word, outer_readers, sets_line_at, ratio_at, aside_at, kept_at, line_of_kept, lost_at, lost_from, walk_at};
+ghost use Rattle.result_text.specs.Reading.{ReadsAs, by_word, outer_readers, sets_line_at, ratio_at, aside_at};
+ghost use Rattle.result_text.specs.Reading.{kept_at, line_of_kept, lost_at, lost_from, walk_at};
 ghost use Rattle.result_text.specs.Reading.{edge_line_at, given_at, why_at, probe_at, end_at, version_at};
 ghost use Rattle.relationships.specs.Flat.{walk_with};
 ghost use Rattle.result_text.specs.Text.{version_of};

@@ -49,9 +49,9 @@ pub data Outcome (Made : Type 0) : Type 0 where
 
 -- ---- the program
 
--- the settings that words give; the files that these name, unless what is read stands in no file; what the settings and the files, as far as
--- these are known, come to; what has shown itself before the file of a number, from 1 the dumps; and of what is made the status of a run that
--- has written it, the last file that it takes, and a text with its note
+-- the settings that words give; the files that these name, unless what is read stands in no file; what the settings and the files, as far
+-- as these are known, come to; what has shown itself before the file of a number, from 1 the dumps; and of what is made the status of a run
+-- that has written it, the last file that it takes, and a text with its note
 pub record Program (Settings Made : Type 0) : Type 1 where
   pub given : List (List ℕ) → Option Settings
   pub reads : Settings → Option Reads

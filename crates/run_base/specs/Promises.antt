@@ -45,7 +45,8 @@ absent_at zero = NoFile
 absent_at (suc n) = Ends (Absent (suc n))
 
 -- the settings name a file of this number, and what comes before it has shown itself to be good; over a steady shelf it isn't there
-pub record FailsAt {S M : Type 0} (program : Program S M) (settings : S) (known : Option Files) (steady : Type 0) (number : ℕ) : Type 0 where
+pub record FailsAt {S M : Type 0} (program : Program S M) (settings : S) (known : Option Files) (steady : Type 0) (number : ℕ)
+    : Type 0 where
   pub named : IsSomeAnd (program.reads settings) (λ reads. IsNumber (named_in reads) number)
   pub before : program.Before settings known number
   pub absent : steady → program.Gives settings known (absent_at number)

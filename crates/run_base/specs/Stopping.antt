@@ -1,5 +1,6 @@
 -- Why a run makes nothing of its files, and what it answers then.
-use Rattle.std.specs.Prelude.{◌≡◌, ◌<◌, ◌≤◌, ◌⊎◌, ◌++◌, ℕ, List, length, take, Option, IfOk, IfErr, OnOk, IfSome, IsErrAnd, Result, option_map}
+use Rattle.std.specs.Prelude.{◌≡◌, ◌<◌, ◌≤◌, ◌⊎◌, ◌++◌, ℕ, List, length, take}
+use Rattle.std.specs.Prelude.{Option, IfOk, IfErr, OnOk, IfSome, IsErrAnd, Result, option_map}
 use Rattle.std.specs.Prelude.{None, string_bytes, ⊤}
 use Rattle.std.specs.Io.KnownBytes.{IsAtEnd, append_known}
 use Rattle.tor_io.specs.Contents.{Files, GainsPrefix}
@@ -22,7 +23,8 @@ use Rattle.run_base.specs.Answers.{AnswersStop, AnswersUnread, AnswersWith, IsNo
 use Rattle.run_base.specs.Frames.{ReadsShelf, RunLeavesOut}
 use Rattle.run_base.specs.Notes.{bad_line_note, broken_note, plain_note}
 use Rattle.run_base.specs.Opening.{OpensInOrder}
-use Rattle.run_base.specs.Programs.{Reads, Makes, TooLong, BadLine, Breaks, Lacks, Ends, Program, DumpsEndAt, DumpsGive, ReadBefore, named_in}
+use Rattle.run_base.specs.Programs.{Reads, Makes, TooLong, BadLine, Breaks, Lacks, Ends, Program}
+use Rattle.run_base.specs.Programs.{DumpsEndAt, DumpsGive, ReadBefore, named_in}
 use Rattle.run_base.specs.Promises.{Ending, Came, FailedRead, OutOfMemory, MayEnd, OfFirst, IsFilesEnd, ReadsTo}
 use Rattle.run_base.specs.Reach.{IsDumpInReach}
 
@@ -73,8 +75,8 @@ StopsDumps known steady sets dumps start dump error.ReadFault =
 StopsDumps known steady sets dumps start dump error.NoMemory = ⊤
 
 -- all dumps give this on top of that, or reading stopped at one of them
-pub record ReadsDumps {H : Type 0} (h : shelf.Ghosts H) (sets : Sets) (dumps : List (List ℕ)) (start : Taken) (result : Result Taken Stopped)
-    (old new : H) : Type 0 where
+pub record ReadsDumps {H : Type 0} (h : shelf.Ghosts H) (sets : Sets) (dumps : List (List ℕ)) (start : Taken)
+    (result : Result Taken Stopped) (old new : H) : Type 0 where
   pub given : IfOk result (DumpsGive (h.files old) sets dumps start)
   pub stopped : IfErr result (λ e. StopsDumps (h.files old) (h.steady old) sets dumps start e.dump e.error)
   pub read_out : OnOk result (0 < length dumps → IsAtEnd (h.left new))

@@ -1,16 +1,15 @@
 -- What a result has decided stays so, whatever dumps are added; and some result is faithful to what dumps gave.
-use Rattle.std.proofs.Common.{◌≡◌, ℕ, ◌+◌, List, [], ◌∷◌, ◌++◌, length, map, take, Option, Some, None, Result, Ok, Err, refl, sym, ap, ap₂, subst, ◌∙◌, arith, append-nil}
+use Rattle.std.proofs.Common.{◌≡◌, ℕ, ◌+◌, List, [], ◌∷◌, ◌++◌, length, map, take, Result, Ok, Err, refl, sym, ap, subst, ◌∙◌, arith, append-nil}
 use Rattle.std.proofs.lemmas.List.{length-map, take-append-le, take-map, take_all}
 use Rattle.path_attrs.specs.Fields.{◌>>=◌}
 use Rattle.path_clean.specs.declared.cleaned.Sets.{Sets}
 use Rattle.path_table.specs.Rows.{row_paths}
 use Rattle.tor_arena.specs.Limits.{max_paths}
-use Rattle.tor_io.specs.Contents.{Files}
 use Rattle.relationships.specs.declared.fate.Fate.{Fate}
 use Rattle.relationships.specs.declared.given.Given.{Given}
 use Rattle.relationships.specs.Givens.{NameTwo, NameOnce}
 use Rattle.dump_read.specs.declared.taking.Taken.{Taken}
-use Rattle.dump_read.specs.Seen.{DumpsEnd, of_file, of_octets}
+use Rattle.dump_read.specs.Seen.{DumpsEnd, of_octets}
 use Rattle.result_text.specs.declared.file.PathLine.{PathLine}
 use Rattle.result_text.specs.declared.file.ResultFile.{ResultFile}
 use Rattle.result_rules.specs.declared.rule.Rule.TheVariants.{HeadSound}
@@ -22,15 +21,16 @@ use Rattle.rel_infer.specs.SelfAcceptance.{SelfAcceptanceLaw}
 use Rattle.rel_infer.proofs.Acceptance.{same_givens}
 use Rattle.result_laws.specs.Existing.{SomeResultLaw}
 use Rattle.result_laws.specs.Growing.{ForcedStaysLaw}
-use Rattle.run_base.specs.Reading.{nothing, seen_from, seen_of}
+use Rattle.run_base.specs.Reading.{nothing, seen_of}
 use Rattle.run_base.proofs.Values as values
 use Rattle.tor_words.specs.Given.{BoundsLaw, dumps_in}
-use Rattle.tor_output.specs.Resuming.{IsOfDumps}
 use Rattle.tor_output.specs.Accepting.{TableLaw}
 use Rattle.tor_output.specs.First.{first_in}
 use Rattle.tor_output.proofs.Resumings.{Begins, octets_begin}
 use Rattle.run_laws.specs.Growing.{ResumedStaysLaw, AddedStaysLaw, SomeFaithfulLaw}
-use Rattle.run_laws.proofs.JoinedRows.{joined_rows}
+use Rattle.tor_output.specs.Output.{paths_joined, paths_taken}
+use Rattle.tor_output.proofs.JoinedRows.{joined_rows}
+use Rattle.tor_output.proofs.Orderings.{joined_rows_too, taken_rows}
 use Rattle.run_laws.proofs.ResumeLemmas.{is_accepted}
 
 -- ---- on top of a result
@@ -48,9 +48,9 @@ pub resumed_stays_law : BoundsLaw → SelfAcceptanceLaw → ForcedStaysLaw → R
 resumed_stays_law bounds accept stays words settings files earlier taken file given comes resumed =
     let within = bounds words settings given in
     let rules = (is_accepted (first_in settings) files earlier comes.0).1.rules in
-    let rows = joined_rows earlier settings.max_paths (dumps_in settings) files taken within.most rules comes.1 in
+    let rows = joined_rows_too settings earlier taken (joined_rows earlier settings.max_paths (dumps_in settings) files taken within.most rules comes.1) in
     let own = sym (same_givens earlier earlier.givens refl) in
-    let vouched = accept earlier.givens earlier.sets settings.ratio taken.table.rows taken.counts file within.ratio rows
+    let vouched = accept earlier.givens earlier.sets settings.ratio (paths_joined settings earlier taken) taken.counts file within.ratio rows
     (subst (λ (gs : List Given). NameTwo gs) own (name_two earlier (rules HeadSound))) (subst (λ (gs : List Given). NameOnce gs) own (name_once earlier (rules HeadSound))) resumed.0 in
     stays earlier file rules vouched.accepted (record {
       paths = continues_paths earlier file resumed.1;
@@ -108,4 +108,4 @@ added_stays_law stays dumps more earlier later accepts accepts' before after set
 pub some_faithful_law : TableLaw → SomeResultLaw → SomeFaithfulLaw
 some_faithful_law table some words settings files known taken given comes =
     let (rows, sound) = table words settings files known taken given comes in
-    some known settings.sets settings.ratio taken.table.rows taken.counts rows sound.0 sound.1
+    some known settings.sets settings.ratio (paths_taken settings taken) taken.counts (taken_rows settings taken rows) sound.0 sound.1

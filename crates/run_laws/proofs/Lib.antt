@@ -1,9 +1,10 @@
 pub mod AcceptedGradings
 pub mod Agreeing
+pub mod AgreeingInAnyOrder
 pub mod EqualLengths
 pub mod GrowingRuns
-pub mod JoinedRows
 pub mod Migrating
 pub mod OrderRuns
 pub mod ResumeLemmas
 pub mod SelfGradings
+pub mod ShortRuns

@@ -1,9 +1,10 @@
 -- A check comes to the same with the text of a result and with its text of version 2: what the rules read is the same, and the texts are
 -- equally long.
-use Rattle.std.proofs.Common.{◌≡◌, ◌≤◌, ◌<◌, ◌+◌, inl, inr, ℕ, zero, suc, arith, true, false, List, [], ◌∷◌, length, Option, Some, None, Ok, Err, Result, is_none, refl, sym, ap, ◌∙◌, subst}
+use Rattle.std.proofs.Common.{◌≡◌, ◌≤◌, ◌<◌, ◌+◌, inl, inr, ℕ, zero, suc, arith, Bool, true, false, List, [], ◌∷◌, length, Option, Some, None, Ok, Err, Result, is_none, refl, sym, ap, ◌∙◌, subst}
 use Rattle.tor_io.specs.Contents.{Files}
 use Rattle.path_clean.specs.Counts.{CauseCounts}
 use Rattle.path_table.specs.Rows.{Counted}
+use Rattle.any_order.specs.AnyOrder.{JudgesInAnyOrder}
 use Rattle.relationships.specs.declared.given.Given.{Given}
 use Rattle.result_text.specs.declared.file.ResultFile.{ResultFile}
 use Rattle.result_text.specs.Grammar.{IsTextOf}
@@ -29,7 +30,7 @@ use Rattle.result_file.specs.Ruled.{BreaksRule}
 use Rattle.run_base.specs.Programs.{Outcome, Makes, NoFile, TooLong, BadLine, Breaks, Lacks, Ends, HasOctets}
 use Rattle.torcheck_run.specs.declared.judging.Judged.{Judged}
 use Rattle.torcheck_run.specs.declared.judging.Judged.TheVariants.{ByFile, ByDumps}
-use Rattle.torcheck_run.specs.Checking.{GivesOutcome, Holds, JudgesDumps}
+use Rattle.torcheck_run.specs.Checking.{GivesOutcome, Holds, JudgesDumps, JudgesTaken}
 use Rattle.torcheck_run.specs.Judging.{JudgesByDumps, seen_for}
 use Rattle.result_file.proofs.OneRuling.{OneValue, same_file}
 use Rattle.tor_output.specs.Output.{migrated}
@@ -186,13 +187,41 @@ against_back f rows counts (No line rule) h = record {
   before = λ j lt. agrees_back f rows counts j (h.before j lt);
 }
 
-dumps_on : (f : ResultFile) (dumps : List (List ℕ)) (files : Files) (v : Verdict) → JudgesByDumps f dumps files v → JudgesByDumps (migrated f) dumps files v
-dumps_on f [] files v h = h
-dumps_on f (dump ∷ dumps) files v h = (h.0, h.1, against_on f h.0.table.rows h.0.counts v h.2)
+any_on : (f : ResultFile) (rows : List Counted) (counts : CauseCounts) (v : Verdict) → JudgesInAnyOrder f rows counts v → JudgesInAnyOrder (migrated f) rows counts v
+any_on f rows counts Yes h = h
+any_on f rows counts (No line rule) h = record {
+  named = h.named;
+  place = h.place;
+  numbered = h.numbered;
+  breach = λ a. h.breach (record { count = a.count; path = λ le. let p = a.path le in record { line = p.line; end = p.end } });
+  before = λ j lt. let a = h.before j lt in record { count = a.count; path = λ le. let p = a.path le in record { line = p.line; end = p.end } };
+}
 
-dumps_back : (f : ResultFile) (dumps : List (List ℕ)) (files : Files) (v : Verdict) → JudgesByDumps (migrated f) dumps files v → JudgesByDumps f dumps files v
-dumps_back f [] files v h = h
-dumps_back f (dump ∷ dumps) files v h = (h.0, h.1, against_back f h.0.table.rows h.0.counts v h.2)
+any_back : (f : ResultFile) (rows : List Counted) (counts : CauseCounts) (v : Verdict) → JudgesInAnyOrder (migrated f) rows counts v → JudgesInAnyOrder f rows counts v
+any_back f rows counts Yes h = h
+any_back f rows counts (No line rule) h = record {
+  named = h.named;
+  place = h.place;
+  numbered = h.numbered;
+  breach = λ a. h.breach (record { count = a.count; path = λ le. let p = a.path le in record { line = p.line; end = p.end } });
+  before = λ j lt. let a = h.before j lt in record { count = a.count; path = λ le. let p = a.path le in record { line = p.line; end = p.end } };
+}
+
+taken_on : (any : Bool) (f : ResultFile) (taken : Taken) (v : Verdict) → JudgesTaken any f taken v → JudgesTaken any (migrated f) taken v
+taken_on false f taken v h = against_on f taken.table.rows taken.counts v h
+taken_on true f taken v h = any_on f taken.table.rows taken.counts v h
+
+taken_back : (any : Bool) (f : ResultFile) (taken : Taken) (v : Verdict) → JudgesTaken any (migrated f) taken v → JudgesTaken any f taken v
+taken_back false f taken v h = against_back f taken.table.rows taken.counts v h
+taken_back true f taken v h = any_back f taken.table.rows taken.counts v h
+
+dumps_on : (any : Bool) (f : ResultFile) (dumps : List (List ℕ)) (files : Files) (v : Verdict) → JudgesByDumps any f dumps files v → JudgesByDumps any (migrated f) dumps files v
+dumps_on any f [] files v h = h
+dumps_on any f (dump ∷ dumps) files v h = (h.0, h.1, taken_on any f h.0 v h.2)
+
+dumps_back : (any : Bool) (f : ResultFile) (dumps : List (List ℕ)) (files : Files) (v : Verdict) → JudgesByDumps any (migrated f) dumps files v → JudgesByDumps any f dumps files v
+dumps_back any f [] files v h = h
+dumps_back any f (dump ∷ dumps) files v h = (h.0, h.1, taken_back any f h.0 v h.2)
 
 -- ---- verdicts
 
@@ -250,18 +279,18 @@ module _ (dumps : List (List ℕ)) (files later : Files) (keep : KeepDumps dumps
   seen_kept : (file : ResultFile) (r : Result Taken DumpsEnd) → seen_for file dumps files ≡ r → seen_for file dumps later ≡ r
   seen_kept file r e = sym (seen_same file.sets 1 (nothing max_paths) dumps files later keep) ∙ e
 
-dumps_kept : (f : ResultFile) (dumps : List (List ℕ)) (files later : Files) → KeepDumps dumps files later → (v : Verdict) → JudgesByDumps f dumps files v → JudgesByDumps f dumps later v
-dumps_kept f [] files later keep v h = h
-dumps_kept f (dump ∷ dumps) files later keep v h = (h.0, seen_kept (dump ∷ dumps) files later keep f (Ok h.0) h.1, h.2)
+dumps_kept : (any : Bool) (f : ResultFile) (dumps : List (List ℕ)) (files later : Files) → KeepDumps dumps files later → (v : Verdict) → JudgesByDumps any f dumps files v → JudgesByDumps any f dumps later v
+dumps_kept any f [] files later keep v h = h
+dumps_kept any f (dump ∷ dumps) files later keep v h = (h.0, seen_kept (dump ∷ dumps) files later keep f (Ok h.0) h.1, h.2)
 
 -- as far as files are known
-to_dumps : (f : ResultFile) (dumps : List (List ℕ)) (files : Files) (v : Verdict) → JudgesByDumps f dumps files v → JudgesDumps (Some files) f dumps v
-to_dumps f [] files v h = h
-to_dumps f (dump ∷ dumps) files v h = h
+to_dumps : (any : Bool) (f : ResultFile) (dumps : List (List ℕ)) (files : Files) (v : Verdict) → JudgesByDumps any f dumps files v → JudgesDumps any (Some files) f dumps v
+to_dumps any f [] files v h = h
+to_dumps any f (dump ∷ dumps) files v h = h
 
-of_dumps : (f : ResultFile) (dumps : List (List ℕ)) (files : Files) (v : Verdict) → JudgesDumps (Some files) f dumps v → JudgesByDumps f dumps files v
-of_dumps f [] files v h = h
-of_dumps f (dump ∷ dumps) files v h = h
+of_dumps : (any : Bool) (f : ResultFile) (dumps : List (List ℕ)) (files : Files) (v : Verdict) → JudgesDumps any (Some files) f dumps v → JudgesByDumps any f dumps files v
+of_dumps any f [] files v h = h
+of_dumps any f (dump ∷ dumps) files v h = h
 
 -- a text of version 2 stays as it is, and the text of version 1 is as long
 same_text : (f : ResultFile) (before after : List ℕ) → IsTextOf f before → IsTextOf (migrated f) after → (givens : List Given) → f.givens ≡ Some givens → after ≡ before
@@ -328,8 +357,12 @@ module _ (law : OneValue) (f : ResultFile) (before after : List ℕ) (old : IsTe
       let same = its_bytes check.result before files was h.0 h.1.there in
       (after, now h.1, broken_on law f before after old new (No l r) (subst (λ b. BreaksRule b (No l r)) same h.2))
   outcome_on (Makes (ByDumps v)) h =
-      let judged = of_dumps f check.dumps files v (subst (λ g. JudgesDumps (Some files) g check.dumps v) (this h.0 h.1) h.2) in
-      (migrated f, holds_on h.0 h.1, to_dumps (migrated f) check.dumps later v (dumps_kept (migrated f) check.dumps files later keep v (dumps_on f check.dumps files v judged)))
+      let judged = of_dumps check.any_order f check.dumps files v (subst (λ g. JudgesDumps check.any_order (Some files) g check.dumps v) (this h.0 h.1) h.2) in (
+        migrated f,
+        holds_on h.0 h.1,
+        to_dumps check.any_order (migrated f) check.dumps later v
+            (dumps_kept check.any_order (migrated f) check.dumps files later keep v (dumps_on check.any_order f check.dumps files v judged)),
+      )
   outcome_on NoFile h = absurd (not_absent check.result before files was h)
   outcome_on TooLong h = long_file check.result after later is (subst (λ n. max_result < n) (sym long) (is_long check.result before files was h))
   outcome_on (BadLine line) h = h
@@ -343,8 +376,8 @@ module _ (law : OneValue) (f : ResultFile) (before after : List ℕ) (old : IsTe
       let same = its_bytes check.result after later is h.0 h.1.there in
       (before, then h.1, broken_back law f before after old new (No l r) (subst (λ b. BreaksRule b (No l r)) same h.2))
   outcome_back (Makes (ByDumps v)) h =
-      let judged = of_dumps (migrated f) check.dumps later v (subst (λ g. JudgesDumps (Some later) g check.dumps v) (that h.0 h.1) h.2) in
-      (f, holds_back h.0 h.1, to_dumps f check.dumps files v (dumps_kept f check.dumps later files back v (dumps_back f check.dumps later v judged)))
+      let judged = of_dumps check.any_order (migrated f) check.dumps later v (subst (λ g. JudgesDumps check.any_order (Some later) g check.dumps v) (that h.0 h.1) h.2) in
+      (f, holds_back h.0 h.1, to_dumps check.any_order f check.dumps files v (dumps_kept check.any_order f check.dumps later files back v (dumps_back check.any_order f check.dumps later v judged)))
   outcome_back NoFile h = absurd (not_absent check.result after later is h)
   outcome_back TooLong h = long_file check.result before files was (subst (λ n. max_result < n) long (is_long check.result after later is h))
   outcome_back (BadLine line) h = h

@@ -1,10 +1,13 @@
 -- A grading by the relationships that were found for the same paths.
 use Rattle.std.proofs.Common.{◌≡◌, ◌↔◌, ℕ, suc, ◌+◌, ◌≤◌, Bool, false, cond, List, [], ◌∷◌, ◌++◌, map, Some, Result, Ok, Contains, IsTrue, refl, sym, ap, ap₂, ◌∙◌, subst, arith, if◌then◌else◌}
-use Rattle.std.proofs.Common.{unwrap_or}
+use Rattle.std.proofs.Common.{unwrap_or, IsPermutation}
 use Rattle.std.specs.Prelude.{count_by, slice_get}
 use Rattle.std.proofs.lemmas.Bool.{false_from_ne_true}
 use Rattle.std.proofs.lemmas.List.Sums.{sum_by-cons}
 use Rattle.std.proofs.lemmas.Option.{same_Some}
+use Rattle.std.proofs.lemmas.List.Sorted.{Contains-permutation, IsPermutation-map}
+use Rattle.path_order.proofs.KeptLemmas.{behind_moves, behind_none}
+use Rattle.tor_output.specs.Output.{paths_taken}
 use Rattle.tor_arena.specs.Limits.{max_paths}
 use Rattle.tor_io.specs.Contents.{Files}
 use Rattle.path_clean.specs.declared.cleaned.Sets.{Sets}
@@ -22,7 +25,6 @@ use Rattle.as_rel.specs.declared.grading.Grade.TheVariants.{Free, Valley, Unknow
 use Rattle.as_rel.specs.Grading.{IsGrade, grade, steps_on}
 use Rattle.as_rel.proofs.KeptLemmas.{free_exactly, never_unknown}
 use Rattle.tor_words.specs.declared.settings.Settings.{Settings}
-use Rattle.tor_words.specs.declared.grade_settings.GradeSettings.{GradeSettings}
 use Rattle.tor_words.specs.declared.task.Made.TheVariants.{Serial}
 use Rattle.tor_words.specs.Given.{BoundsLaw, dumps_in}
 use Rattle.torgrade_run.specs.GradeText.{is_free, is_unknown, cone_text, grades_of, grading_text, totals_of}
@@ -84,6 +86,14 @@ sees_all settings files taken dumps few cut sees =
     all_files settings.max_paths max_paths Cut 1 (nothing settings.max_paths) taken dumps files (record { same = refl; few = omega arith; less = few })
     (subst (λ (s : Sets). seen_from s 1 (nothing settings.max_paths) dumps files ≡ Ok taken) cut sees)
 
+-- each path stands in the order of the run, too
+taken_there : (settings : Settings) (taken : Taken) (path : List ℕ) → Contains (row_paths taken.table.rows) path → Contains (row_paths (paths_taken settings taken)) path
+taken_there settings taken path there =
+    let rows = taken.table.rows in
+    let moved = subst (IsPermutation rows) (behind_none settings.order rows) (behind_moves settings.order 0 rows) in
+    Contains-permutation (row_paths rows) (row_paths (paths_taken settings taken)) path
+    (IsPermutation-map (λ (row : Counted). row.path) rows (paths_taken settings taken) moved) there
+
 pub self_grading : BoundsLaw → SelfGradingLaw
 self_grading bounds words settings files known taken rel given serial cut comes_to exact grade_words grading later text graded_given there dumps basis note gives is =
     let sees = joining.seen_by settings.sets 1 (nothing settings.max_paths) grading.dumps (dumps_in settings) later files dumps
@@ -98,8 +108,9 @@ self_grading bounds words settings files known taken rel given serial cut comes_
       is_text = is.2 ∙ ap (λ (t : Taken). grading_text basis.rel t.table.rows is.0) taken_same;
       keeps = exact.graded.keeps;
       kept = exact.graded.kept;
-      free = subst (λ (ls : List RelLine). map is_free (grades_of ls taken.table.rows) ≡ exact.graded.keeps) (sym lines_same)
-          (free_flags exact.lines (returns (row_paths taken.table.rows) (unwrap_or known [])) taken.table.rows exact.graded.keeps exact.graded.kept exact.graded.free);
+      free = subst (λ (ls : List RelLine). map is_free (grades_of ls (paths_taken settings taken)) ≡ exact.graded.keeps) (sym lines_same)
+          (free_flags exact.lines (returns (row_paths (paths_taken settings taken)) (unwrap_or known [])) (paths_taken settings taken) exact.graded.keeps exact.graded.kept
+          exact.graded.free);
       known = subst (λ (ls : List RelLine). (totals_of (grades_of ls taken.table.rows)).unknown ≡ 0) (sym lines_same)
-          (none_unknown exact.lines taken.table.rows exact.graded.known);
+          (none_unknown exact.lines taken.table.rows (λ path number there. exact.graded.known path number (taken_there settings taken path there)));
     }

@@ -1,5 +1,5 @@
 -- What a result has decided stays so, whatever dumps are added.
-use Rattle.std.specs.Prelude.{◌≡◌, ℕ, List, ◌++◌, Option, Some, Ok}
+use Rattle.std.specs.Prelude.{◌≡◌, ℕ, List, ◌++◌, Option, Some}
 use Rattle.tor_io.specs.Contents.{Files}
 use Rattle.dump_read.specs.declared.taking.Taken.{Taken}
 use Rattle.relationships.specs.declared.given.Given.{Given}
@@ -20,8 +20,8 @@ ResumedStaysLaw =
     settings_given words ≡ Some settings → ComesTo settings files (Joins earlier taken) → IsResumed settings earlier taken file →
     StaysDecided earlier file
 
--- and so it stays where a result is of the octets of an earlier one's dumps and then of others, with its sets and its givens, whether it was made of
--- all of them in one run or not
+-- and so it stays where a result is of the octets of an earlier one's dumps and then of others, with its sets and its givens, whether it
+-- was made of all of them in one run or not
 abbrev pub AddedStaysLaw : Type 0
 AddedStaysLaw =
     (dumps more : List (List ℕ)) (earlier later : ResultFile) → Accepts earlier → Accepts later → IsOfDumps earlier dumps →

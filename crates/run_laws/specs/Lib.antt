@@ -4,3 +4,4 @@ pub mod AnyOrder
 pub mod Growing
 pub mod ResumeLaws
 pub mod SelfGrading
+pub mod ShortLaws

@@ -5,11 +5,12 @@ ghost use Rattle.tor_output.specs.Grading.{GradingLaw, ResultEndsLaw};
 ghost use Rattle.tor_output.specs.Seen.{OneOutcomeLaw};
 ghost use Rattle.tor_output.specs.SeenLaw.{DumpsLaw, SeenLaw, DumpsReadableLaw, ReadableLaw};
 ghost use Rattle.run_laws.specs.AcceptedGrading.{AcceptedGradingLaw};
-ghost use Rattle.run_laws.specs.Agreement.{AgreementLaw, MigrateLaw, OneSummaryLaw};
+ghost use Rattle.run_laws.specs.Agreement.{AgreementLaw, AnyOrderAgreementLaw, MigrateLaw, OneSummaryLaw};
 ghost use Rattle.run_laws.specs.AnyOrder.{AnyDumpOrderLaw};
 ghost use Rattle.run_laws.specs.Growing.{ResumedStaysLaw, AddedStaysLaw, SomeFaithfulLaw};
 ghost use Rattle.run_laws.specs.ResumeLaws.{OfDumpsLaw, ResumeLaw, InPartsLaw, ResumedAcceptanceLaw};
 ghost use Rattle.run_laws.specs.SelfGrading.{SelfGradingLaw};
+ghost use Rattle.run_laws.specs.ShortLaws.{ShortLaw, ShortLimitLaw};
 
 use dump_read::dump_law;
 use rel_infer::self_acceptance_law;
@@ -37,9 +38,10 @@ pub fn faithful_law()
 
 /// What `torcheck` says of a result that `tor` has written, with known relationships or without: yes and nothing else, alone and beside the
 /// same dumps, at whatever time and under whatever names, and whatever limit on paths they were read under. And each that isn't too long
-/// it can judge, and `tor --resume` can take up.
+/// it can judge, and `tor --resume` can take up. With `--any-order` so it is in whatever order the dumps stand, and the paths were taken.
 pub fn agreement_law()
-    ensures { AgreementLaw }
+    ensures as_seen { AgreementLaw }
+    ensures in_any_order { AnyOrderAgreementLaw }
 {
     one_value();
     bounds_law();
@@ -138,6 +140,14 @@ pub fn any_dump_order_law()
     dump_law();
     any_order_law();
 }
+
+/// What `--order short` is for: where two runs with it have dumps that give the same routes, in whatever order these come and however they are
+/// cut into records and dumps, they have the same paths, counts and results in all but the evidence. And where one meets the limit of paths
+/// or of numbers, the other meets one of the two.
+pub fn short_law()
+    ensures one_answer { ShortLaw }
+    ensures limits { ShortLimitLaw }
+{}
 
 /// Every accepted result grades itself: of each result that meets all rules, whoever made it, exactly the kept paths are free under the
 /// lines of its edges, and none is unknown.

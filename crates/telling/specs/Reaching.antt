@@ -55,4 +55,5 @@ pub record IsBack (file : ResultFile) (es : List Edge) (way : List ℕ) (over un
   pub begins : BeginsWith walk.ases over under
   pub ends : EndsWith walk.ases y x
   pub long : k + length walk.ases ≡ length way + 1
-  pub orders : (i a b : ℕ) → HasStep walk.ases i a b → (u : ℕ) × (slice_get way (length way - (i + 1)) ≡ Some u) × HasOver (its_labels file) es u b a
+  pub orders : (i a b : ℕ) → HasStep walk.ases i a b →
+      (u : ℕ) × (slice_get way (length way - (i + 1)) ≡ Some u) × HasOver (its_labels file) es u b a

@@ -1,4 +1,4 @@
-//! The ties of a table.
+//! The ties of distinct paths.
 ghost use Rattle.std.specs.Prelude.{◌≡◌, ◌<◌, ◌≤◌, All, drop, length, map, sum_by, IfOk};
 ghost use Rattle.tor_arena.specs.Limits.{max_numbers, max_paths};
 ghost use Rattle.tor_arena.specs.Distinct.{AllDistinct};
@@ -15,8 +15,8 @@ use crate::marking::marks_of;
 use crate::tie::{Side, Tie};
 use crate::tying::ties;
 use as_graph::{AsGraph, build_with};
+use path_order::DistinctPaths;
 use path_select::{Selector, places_behind, select_behind};
-use path_table::PathTable;
 use relationships::Given;
 use std::alloc::Global;
 use tor_arena::{Keys, List, NoMemory, PathId, Rows};
@@ -142,19 +142,19 @@ fn ties_from(
     lines
 }
 
-/// The ties of the distinct paths of a table under relationships that are given, each of two ASes and no two of the same two. Every
+/// The ties of distinct paths under relationships that are given, each of two ASes and no two of the same two. Every
 /// orientation that is asked for agrees with them, so the edges that they name are not open. The only error is that memory ran out.
-pub fn ties_of_table(
+pub fn ties_of_paths(
     alloc: Global,
     keys: Keys,
     givens: &[Given],
-    table: PathTable,
+    paths: DistinctPaths,
 ) -> Result<List<TieLine>, NoMemory>
     requires two { NameTwo givens.now }
     requires once { NameOnce givens.now }
-    ensures { IfOk result (AreTieLinesOf givens.now (row_paths table.rows)) }
+    ensures { IfOk result (AreTieLinesOf givens.now (row_paths paths)) }
 {
-    table.facts();
-    let (rows, _) = table.into_rows();
+    paths.facts();
+    let (rows, _) = paths.into_rows();
     ties_from(alloc, keys, givens, &rows)
 }

@@ -1,12 +1,11 @@
 -- What one visit more leaves true of a search.
-use Rattle.std.proofs.Common.{◌≡◌, ℕ, ◌+◌, ◌<◌, ◌≤◌, ◌⊎◌, inl, inr, Bool, true, false, List, [], ◌∷◌, ◌++◌, Some, length, sym, ap, ◌∙◌, subst, arith}
+use Rattle.std.proofs.Common.{◌≡◌, ℕ, ◌+◌, ◌<◌, ◌≤◌, inl, inr, Bool, true, false, List, [], ◌∷◌, ◌++◌, length, sym, ap, ◌∙◌, subst, arith}
 use Rattle.std.specs.Prelude.{slice_get}
 use Rattle.tor_arena.proofs.Gets.{slice_get-push_cases, slice_get-push_last, slice_get-some}
 use Rattle.relationships.specs.declared.label.End.{End}
 use Rattle.tor_digraph.specs.Spreading.{Stays}
 use Rattle.tor_digraph.specs.Trails.{StandsAt, Visits}
 use Rattle.tor_digraph.specs.declared.trail.Trail.{Trail}
-use Rattle.tor_digraph.specs.Walks.{IsArc}
 use Rattle.tor_clauses.specs.Literals.{lit_of, Holds}
 use Rattle.tor_mend.specs.Searches.{AreUnheld, StayUnheld, IsPassed, ArePassed}
 

@@ -82,7 +82,8 @@ IsPut r old new = (new ≡ old ++ r ∷ []) ⊎ ((place : ℕ) × (new ≡ slice
 
 -- no refusal is forgotten, and none has a longer walk than before
 abbrev pub NoneGrows : List Refusal → List Refusal → Type 0
-NoneGrows old new = (place : ℕ) (r : Refusal) → slice_get old place ≡ Some r → (s : Refusal) × (slice_get new place ≡ Some s) × (s.links ≤ r.links)
+NoneGrows old new =
+    (place : ℕ) (r : Refusal) → slice_get old place ≡ Some r → (s : Refusal) × (slice_get new place ≡ Some s) × (s.links ≤ r.links)
 
 -- the refusals with one of this path, whose walk has no link into it but of the triple
 pub record Puts (graph : List (List ℕ)) (path : ℕ) (w : Walk) (old new : List Refusal) : Type 0 where

@@ -2,7 +2,7 @@
 //!
 //! Both arcs of a triple are followed by turns, and the nearer end is mended. If one is always taken, a chain of n orders that is asked
 //! to turn n times takes n times n. Up to 64 arcs the arc goes before its partner.
-ghost use Rattle.std.specs.Prelude.{◌≡◌, ℕ, ◌*◌, ◌<◌, [], List, length, OnOk, IfOk, IfSome, IfNone};
+ghost use Rattle.std.specs.Prelude.{◌≡◌, ℕ, ◌*◌, ◌<◌, [], List, length, IfOk, IfSome, IfNone};
 ghost use Rattle.tor_arena.specs.Limits.{max_numbers};
 ghost use Rattle.tor_digraph.specs.Trails.{IsTrail};
 ghost use Rattle.tor_clauses.specs.Literals.{lit_of, opposite_node, Holds};

@@ -177,7 +177,7 @@ impl Refusals {
     }
 
     /// Adds a refusal, or puts it in the place of the one of its triple, if there is one with a longer walk.
-    #[tactic(auto, using(crate::proofs::Shortening::none_changes, crate::proofs::Shortening::one_more, crate::proofs::Shortening::one_shorter))]
+    #[tactic(auto, using(crate::proofs::Shortening::none_changes))]
     fn put(&mut self, refusal: Refusal) -> Result<(), NoMemory>
         ensures put { OnOk result ((self.new.items.items ≡ self.old.items.items) ⊎
             IsPut refusal self.old.items.items self.new.items.items) }

@@ -7,12 +7,14 @@ use Rattle.rel_infer.specs.SelfAcceptance.{AreTableRows, SelfAcceptanceLaw}
 use Rattle.tor_words.specs.Given.{BoundsLaw}
 use Rattle.tor_output.specs.Accepting.{FaithfulLaw, TableLaw}
 use Rattle.tor_output.specs.First.{AreSound, First, Nothing, Givens, Result, Earlier, AreGivens, first_in}
+use Rattle.tor_output.specs.Output.{paths_taken}
 use Rattle.tor_output.proofs.Known.{says_sound}
+use Rattle.tor_output.proofs.Orderings.{taken_rows}
 use Rattle.tor_output.proofs.ReadableLemmas.{readable}
 use Rattle.tor_output.proofs.SeenLemmas.{seen_law}
 use Rattle.tor_output.proofs.TableRows.{counted_rows}
 
-same_octets : (a b : List (List ℕ)) → ◌≡◌ {A = List (Option (List ℕ))} (map Some a) (map Some b) → a ≡ b
+pub same_octets : (a b : List (List ℕ)) → ◌≡◌ {A = List (Option (List ℕ))} (map Some a) (map Some b) → a ≡ b
 same_octets [] [] e = refl
 same_octets [] (y ∷ b) e = absurd cc
 same_octets (x ∷ a) [] e = absurd cc
@@ -46,4 +48,4 @@ table_law bounds words settings files known taken given comes =
 
 pub faithful_law : BoundsLaw → SelfAcceptanceLaw → FaithfulLaw
 faithful_law bounds accept words settings known taken file given sound table faithful =
-    accept known settings.sets settings.ratio taken.table.rows taken.counts file (bounds words settings given).ratio table sound.0 sound.1 faithful
+    accept known settings.sets settings.ratio (paths_taken settings taken) taken.counts file (bounds words settings given).ratio (taken_rows settings taken table) sound.0 sound.1 faithful

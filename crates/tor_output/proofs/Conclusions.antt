@@ -1,7 +1,7 @@
 -- How a run ends with its settings, by the text that was made or why there is none.
-use Rattle.std.proofs.Common.{◌≡◌, ◌≤◌, ◌++◌, ◌∙◌, inl, inr, ℕ, zero, suc, List, [], length, take, Option, Some, None, Result, Ok, Err, refl, sym, ap, subst, arith}
-use Rattle.std.specs.Prelude.{IfSome, IsSome, IsSomeAnd, IfOk, IfErr, OnOk, IsErrAnd, option_map, ⊤}
-use Rattle.std.specs.Io.KnownBytes.{IsAtEnd, append_known}
+use Rattle.std.proofs.Common.{◌≡◌, ◌≤◌, ◌∙◌, inl, inr, ℕ, zero, suc, List, length, Option, Some, None, Result, Ok, Err, refl, sym, ap, subst, arith}
+use Rattle.std.specs.Prelude.{IfSome, IsSomeAnd, option_map, ⊤}
+use Rattle.std.specs.Io.KnownBytes.{IsAtEnd}
 use Rattle.tor_io.specs.Contents.{Files}
 use Rattle.tor_io.specs.declared.shelf.Shelf as shelf
 use Rattle.dump_read.specs.declared.error.DumpError.{DumpError}
@@ -22,7 +22,7 @@ use Rattle.run_base.specs.declared.stop.Stop.TheVariants as stop
 use Rattle.run_base.specs.declared.whole_file.Unread.TheVariants as unread
 use Rattle.run_base.specs.Frames.{ReadsShelf}
 use Rattle.run_base.specs.Opening.{FilesEnd, AllRead, EndedAt, IsNumber, OpensInOrder}
-use Rattle.run_base.specs.Programs.{First, Reads, TooLong, BadLine, Ends, named_in}
+use Rattle.run_base.specs.Programs.{named_in}
 use Rattle.run_base.specs.Promises as promises
 use Rattle.run_base.specs.Promises.{IsFilesEnd, MayEnd, ReadsTo}
 use Rattle.run_base.specs.Reach as reach

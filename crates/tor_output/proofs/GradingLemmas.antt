@@ -38,10 +38,11 @@ use Rattle.dump_read.specs.declared.taking.Taken.{Taken}
 use Rattle.tor_output.specs.Grading.{GradesExactly, GradingLaw, ResultEndsLaw, AsksForSerial, GainsGrading}
 use Rattle.std.specs.Io.KnownBytes.{append_known}
 use Rattle.tor_output.specs.First.{HoldsResult, TakesUp, first_of}
-use Rattle.tor_output.specs.Output.{IsMade, IsOutput, IsOutputIn, GainsOutput, made_by}
+use Rattle.tor_output.specs.Output.{IsMade, IsOutput, IsOutputIn, GainsOutput, made_by, paths_taken}
 use Rattle.tor_output.specs.Seen.{Outcome, Reads, Joins, Holds, Stops, Ends, ComesTo}
 use Rattle.tor_output.specs.Written.{Written}
 use Rattle.tor_output.proofs.AcceptingLemmas.{table_law}
+use Rattle.tor_output.proofs.Orderings.{taken_rows}
 
 -- ---- the lists of a result
 
@@ -90,10 +91,12 @@ module _ (known : Option (List Given)) (sets : Sets) (ratio : ℕ) (rows : List 
   text_graded text read = record { lines = map line_of_edge file.edges; read = read; graded = result_graded }
 
 pub grading_law : GradingLaw
-grading_law settings known taken file are faithful = result_graded known settings.sets settings.ratio taken.table.rows taken.counts file are faithful
+grading_law settings known taken file are faithful =
+    result_graded known settings.sets settings.ratio (paths_taken settings taken) taken.counts file (taken_rows settings taken are) faithful
 
 pub result_ends_law : ResultEndsLaw
-result_ends_law settings known taken file are faithful = result_ends known settings.sets settings.ratio taken.table.rows taken.counts file are faithful
+result_ends_law settings known taken file are faithful =
+    result_ends known settings.sets settings.ratio (paths_taken settings taken) taken.counts file (taken_rows settings taken are) faithful
 
 -- ---- what a run that writes lines of serial-1 has written
 
@@ -110,9 +113,9 @@ is_made (Migrate name) made settings known taken output is w = absurd w
 is_made (Resume earlier dumps) made settings known taken output is w = absurd w
 
 written_by : (settings : Settings) (known : Option (List Given)) (taken : Taken) (output : Written) → AreTableRows taken.table.rows → IsMade Serial settings known taken output →
-    GradesExactly (unwrap_or known []) (row_paths taken.table.rows) output.text
+    GradesExactly (unwrap_or known []) (row_paths (paths_taken settings taken)) output.text
 written_by settings known taken output are (file, faithful, serial, bare) =
-    text_graded known settings.sets settings.ratio taken.table.rows taken.counts file are faithful output.text serial.1
+    text_graded known settings.sets settings.ratio (paths_taken settings taken) taken.counts file (taken_rows settings taken are) faithful output.text serial.1
 
 -- a result is taken up where it is resumed, and held where it is migrated, and lines of serial-1 are written of neither
 by_outcome : (words : List (List ℕ)) (files : Files) (old new : Option (List ℕ)) (settings : Settings) (x : Outcome) (output : Written) → settings_given words ≡ Some settings →

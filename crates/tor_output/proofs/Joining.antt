@@ -1,5 +1,5 @@
 -- What dumps give on top of a result of other dumps is what all these dumps give, one after the other.
-use Rattle.std.proofs.Common.{◌≡◌, ◌≤◌, ℕ, ◌+◌, Bool, true, false, List, [], ◌∷◌, ◌++◌, length, Option, Some, None, Result, Ok, Err, if◌then◌else◌, refl, sym, ap, ap₂, map, subst, ◌∙◌, arith}
+use Rattle.std.proofs.Common.{◌≡◌, ◌≤◌, ℕ, ◌+◌, Bool, true, false, List, [], ◌∷◌, ◌++◌, length, Option, Some, None, Result, Ok, Err, if◌then◌else◌, refl, sym, ap, ap₂, map, ◌∙◌, arith}
 use Rattle.std.specs.Prelude.{nat_lt}
 use Rattle.std.proofs.lemmas.Bool.{ltb-false}
 use Rattle.std.proofs.lemmas.List.{length-map}
@@ -24,10 +24,7 @@ use Rattle.dump_read.proofs.TakingLemmas as taking
 use Rattle.result_text.specs.declared.file.ResultFile.{ResultFile}
 use Rattle.result_rules.specs.Against.{its_rows, row_of}
 use Rattle.run_base.specs.Reading.{nothing, seen_from, seen_of}
-use Rattle.tor_words.specs.declared.settings.Settings.{Settings}
-use Rattle.tor_words.specs.Given.{dumps_in}
-use Rattle.tor_output.specs.Output.{IsResumed}
-use Rattle.tor_output.specs.Resuming.{Hold, IsOfBoth, IsOfDumps}
+use Rattle.tor_output.specs.Resuming.{Hold}
 use Rattle.tor_output.specs.Seen.{joined, taken_up}
 use Rattle.tor_output.proofs.ReadableLemmas.{beside, routes_beside, one_seen, one_taken}
 use Rattle.tor_output.proofs.SeenLemmas.{same, adds}
@@ -215,23 +212,3 @@ pub joined_by : (earlier : ResultFile) (limit : ℕ) (names dumps : List (List �
 joined_by earlier limit names dumps files hold =
     ap (λ (r : Result Taken DumpsEnd). if nat_lt limit (length earlier.paths) then Err (Limit Paths 0) else r)
     (seen_by earlier.sets 1 (taken_up earlier limit) names dumps files Some hold)
-
-pub of_both : (settings : Settings) (files : Files) (earlier : ResultFile) (taken : Taken) (file : ResultFile) → settings.max_paths ≤ max_paths
-    → joined earlier settings.max_paths (dumps_in settings) files ≡ Ok taken → IsResumed settings earlier taken file → IsOfBoth settings files earlier file
-of_both settings files earlier taken file few joins_to resumed = (dumps.0, dumps.1, both)
-  where
-    dumps : (dumps : List (List ℕ)) × Hold files (dumps_in settings) dumps
-    dumps = octets_of earlier.sets 1 (taken_up earlier settings.max_paths) taken (dumps_in settings) files (joins earlier settings.max_paths (dumps_in settings) files taken joins_to).1
-
-    both : (before : List (List ℕ)) → IsOfDumps earlier before → IsOfDumps file (before ++ dumps.0)
-    both before (gave, gives, rows, counts) =
-        let (after, sees, its_rows_are, its_counts_are) =
-        dumps_of_both earlier settings.max_paths before dumps.0 Some gave taken few (by_octets earlier.sets 1 (nothing max_paths) before ∙ gives) rows counts
-        (sym (joined_by earlier settings.max_paths (dumps_in settings) dumps.0 files dumps.1) ∙ joins_to) in
-        let is = resumed.0 in (
-          after,
-          subst (λ (s : Sets). seen_of s 1 (nothing max_paths) (before ++ dumps.0) ≡ Ok after) (sym is.its_sets)
-              (sym (by_octets earlier.sets 1 (nothing max_paths) (before ++ dumps.0)) ∙ sees),
-          its_rows_are ∙ sym is.paths,
-          its_counts_are ∙ sym is.its_counts,
-        )

@@ -5,13 +5,16 @@ pub mod Conclusions
 pub mod FewGivens
 pub mod Gains
 pub mod GradingLemmas
+pub mod JoinedRows
 pub mod Joining
 pub mod Known
 pub mod Openings
+pub mod Orderings
 pub mod ReadableLemmas
 pub mod Resumings
 pub mod Sampled
 pub mod SeenLemmas
+pub mod SomeOrders
 pub mod TableLines
 pub mod TableRows
 pub mod Unwritings

@@ -47,7 +47,7 @@ use Rattle.run_base.specs.Answers.{IsReadFault}
 use Rattle.run_base.specs.Reading.{IsOfSomeDumps, seen_from, seen_of}
 use Rattle.run_base.proofs.Values as values
 use Rattle.tor_output.specs.First.{First, Nothing, Givens, Result as ResultAt, Earlier, AreGivens, AsksToResume, HoldsResult, IsTakenUp, first_in}
-use Rattle.tor_output.specs.Output.{GainsOutput, IsResumed, IsOutput, IsOutputOn, IsOutputOnEarlier, IsOutputOnSome}
+use Rattle.tor_output.specs.Output.{GainsOutput, IsResumed, IsOutput, IsOutputOn, IsOutputOnEarlier, IsOutputOnSome, paths_joined}
 use Rattle.tor_output.specs.Reach.{StopsDumpsInReach, StopsInReach}
 use Rattle.tor_output.specs.Refusals.{StopsAt, IsStopAt, past_limit}
 use Rattle.tor_output.specs.Resuming.{GainsResumed}
@@ -57,7 +57,9 @@ use Rattle.tor_output.specs.Seen.{Outcome, Reads, Joins, Holds, Stops, Ends, Com
 use Rattle.tor_output.specs.declared.output.Output.{Output}
 use Rattle.tor_output.specs.Summary.{summary}
 use Rattle.tor_output.specs.Written.{Written, written}
-use Rattle.tor_output.proofs.Joining.{of_both}
+use Rattle.path_order.specs.Orders.{ordered_behind}
+use Rattle.tor_output.proofs.SomeOrders.{of_both}
+use Rattle.tor_output.proofs.Orderings.{begin_too}
 use Rattle.tor_output.proofs.Sampled.{by_sample}
 
 -- ---- the first rows stay those that were there
@@ -142,17 +144,30 @@ rows_begun settings earlier rest taken begun =
     (ap (take (length earlier.paths)) (paths_of_rows earlier.paths) ∙
     take_all (length earlier.paths) (its_paths earlier) (let many : length (its_paths earlier) ≡ length earlier.paths = length-map earlier.paths (λ line. line.path) in omega (arith, many)))
 
+-- as many fates are left of a result as it has paths
+pub fates_left : (old : ResultFile) (rest : Rest) → IsRestOf old rest → length rest.fates ≡ length old.paths
+fates_left old rest left = ap length left.fates ∙ length-map old.paths (λ (p : PathLine). p.fate)
+
+-- so the paths behind these are those behind its paths
+pub joined_paths : (settings : Settings) (old : ResultFile) (rest : Rest) (taken : Taken) (first : ℕ) (paths : List Counted) → first ≡ length rest.fates
+    → paths ≡ ordered_behind settings.order first taken.table.rows → IsRestOf old rest → paths ≡ paths_joined settings old taken
+joined_paths settings old rest taken first paths many are left =
+    are ∙ ap (λ n. ordered_behind settings.order n taken.table.rows) (many ∙ fates_left old rest left)
+
 -- the result of dumps on top of what is left of one, by the parts of both
-pub resumed_is : {E : Type 0} (settings : Settings) (rest : Rest) (taken : Taken) (r : Result ResultFile E)
-    → IfOk r (IsResultWith rest.givens rest.sets settings.ratio taken.table.rows taken.counts)
-    → IfOk r (λ file. (old : ResultFile) → IsRestOf old rest → BeginsWithPathsOf (row_paths taken.table.rows) old → Continues old file)
+pub resumed_is : {E : Type 0} (settings : Settings) (rest : Rest) (taken : Taken) (first : ℕ) (paths : List Counted) (r : Result ResultFile E)
+    → first ≡ length rest.fates → paths ≡ ordered_behind settings.order first taken.table.rows
+    → IfOk r (IsResultWith rest.givens rest.sets settings.ratio paths taken.counts)
+    → IfOk r (λ file. (old : ResultFile) → IsRestOf old rest → BeginsWithPathsOf (row_paths paths) old → Continues old file)
     → IfOk r (λ file. (old : ResultFile) → IsRestOf old rest → BeginsWithPathsOf (row_paths taken.table.rows) old → IsResumed settings old taken file)
-resumed_is settings rest taken (Err e) is goes = tt
-resumed_is settings rest taken (Ok file) is goes = λ old left begins. (
-  subst (λ (sets : Sets). IsResultWith old.givens sets settings.ratio taken.table.rows taken.counts file) left.sets
-      (subst (λ (known : Option (List Given)). IsResultWith known rest.sets settings.ratio taken.table.rows taken.counts file) left.givens is),
-  goes old left begins,
-)
+resumed_is settings rest taken first paths (Err e) many are is goes = tt
+resumed_is settings rest taken first paths (Ok file) many are is goes = λ old left begins.
+    let same = joined_paths settings old rest taken first paths many are left in (
+      subst (λ (rows : List Counted). IsResultWith old.givens old.sets settings.ratio rows taken.counts file) same
+          (subst (λ (sets : Sets). IsResultWith old.givens sets settings.ratio paths taken.counts file) left.sets
+          (subst (λ (known : Option (List Given)). IsResultWith known rest.sets settings.ratio paths taken.counts file) left.givens is)),
+      goes old left (subst (λ (rows : List Counted). BeginsWithPathsOf (row_paths rows) old) (sym same) (begin_too settings.order old taken.table.rows begins)),
+    )
 
 -- ---- what is taken up
 

@@ -6,7 +6,7 @@ use Rattle.relationships.specs.declared.given.Given.{Given}
 use Rattle.dump_read.specs.declared.error.DumpError.{DumpError}
 use Rattle.dump_read.specs.declared.error.DumpError.TheVariants as error
 use Rattle.dump_read.specs.declared.taking.Taken.{Taken}
-use Rattle.dump_read.specs.Seen.{DumpsEnd, Malformed, Limit}
+use Rattle.dump_read.specs.Seen.{DumpsEnd}
 use Rattle.rel_infer.specs.SelfAcceptance.{AreTableRows}
 use Rattle.result_text.specs.declared.file.ResultFile.{ResultFile}
 use Rattle.result_text.specs.Grammar.{IsTextOf, IsBadLine}

@@ -8,13 +8,13 @@ use Rattle.rel_infer.specs.SelfAcceptance.{AreTableRows, IsVouchedFor}
 use Rattle.tor_words.specs.declared.settings.Settings.{Settings}
 use Rattle.tor_words.specs.Given.{settings_given}
 use Rattle.tor_output.specs.First.{AreSound}
-use Rattle.tor_output.specs.Output.{Faithful}
+use Rattle.tor_output.specs.Output.{Faithful, paths_taken}
 use Rattle.tor_output.specs.Seen.{ComesTo, Reads}
 
--- the result meets the rules 1 to 10 of a checker, and rule 11 over what the dumps gave; its peerings may be read either way, and none
+-- the result meets the rules 1 to 10 of a checker, and rule 11 over what the dumps gave, in the order of the settings; its peerings may be read either way, and none
 -- is left out
 abbrev pub IsVouchedIn : Settings → Taken → ResultFile → Type 0
-IsVouchedIn settings taken file = IsVouchedFor settings.ratio taken.table.rows taken.counts file
+IsVouchedIn settings taken file = IsVouchedFor settings.ratio (paths_taken settings taken) taken.counts file
 
 -- of paths as a table has them, of sound givens, and of settings that words give, each result that is faithful has all this
 abbrev pub FaithfulLaw : Type 0

@@ -1,5 +1,5 @@
 -- What comes before a dump at which reading stopped.
-use Rattle.std.specs.Prelude.{◌≡◌, ◌≤◌, ◌⊎◌, ◌-◌, ℕ, List, length, take, Option, Some, IfSome, Result, IsOk}
+use Rattle.std.specs.Prelude.{◌⊎◌, ◌-◌, ℕ, List, take, Option, IfSome, Result, IsOk}
 use Rattle.tor_io.specs.Contents.{Files}
 use Rattle.relationships.specs.declared.given.Given.{Given}
 use Rattle.dump_read.specs.declared.taking.Taken.{Taken}

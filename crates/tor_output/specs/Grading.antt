@@ -15,7 +15,7 @@ use Rattle.as_rel.specs.Labelled.{ends_of, line_of_edge}
 use Rattle.tor_words.specs.declared.settings.Settings.{Settings}
 use Rattle.tor_words.specs.declared.task.Made.TheVariants.{Serial}
 use Rattle.tor_words.specs.Given.{settings_given}
-use Rattle.tor_output.specs.Output.{Faithful, made_by}
+use Rattle.tor_output.specs.Output.{Faithful, made_by, paths_taken}
 use Rattle.tor_output.specs.Seen.{ComesTo, Reads}
 
 -- the text is read as relationships under which exactly the paths that are kept under the givens are free, and none is unknown
@@ -29,7 +29,7 @@ abbrev pub GradingLaw : Type 0
 GradingLaw =
     (settings : Settings) (known : Option (List Given)) (taken : Taken) (file : ResultFile) → AreTableRows taken.table.rows →
     Faithful settings known taken file →
-    ExactlyKeptAreFree (unwrap_or known []) (row_paths taken.table.rows) (map line_of_edge file.edges)
+    ExactlyKeptAreFree (unwrap_or known []) (row_paths (paths_taken settings taken)) (map line_of_edge file.edges)
 
 -- the lower AS of each edge of a result stands first, and no two of its edges are the same
 abbrev pub ResultEndsLaw : Type 0
@@ -50,4 +50,4 @@ pub record GainsGrading (words : List (List ℕ)) (files : Files) (old new : Opt
   pub seen : ComesTo settings files (Reads known taken)
   pub text : List ℕ
   pub gained : new ≡ append_known old text
-  pub exact : GradesExactly (unwrap_or known []) (row_paths taken.table.rows) text
+  pub exact : GradesExactly (unwrap_or known []) (row_paths (paths_taken settings taken)) text

@@ -1,5 +1,5 @@
 -- What `tor` is to its run: by its job it reads dumps, a sample, or a result, and writes what is made of that.
-use Rattle.std.specs.Prelude.{◌≡◌, [], ℕ, zero, suc, List, Option, None, Some, IfSome, option_map, ⊤}
+use Rattle.std.specs.Prelude.{[], ℕ, zero, suc, List, Option, None, Some, IfSome, option_map, ⊤}
 use Rattle.tor_io.specs.Contents.{Files}
 use Rattle.relationships.specs.declared.given.Given.{Given}
 use Rattle.dump_read.specs.declared.taking.Taken.{Taken}

@@ -1,5 +1,5 @@
 -- Which files a run of `tor` opens.
-use Rattle.std.specs.Prelude.{◌≡◌, [], ℕ, List, Option, None, Some}
+use Rattle.std.specs.Prelude.{◌≡◌, [], Option, None, Some}
 use Rattle.tor_words.specs.declared.settings.Settings.{Settings}
 use Rattle.tor_words.specs.declared.job.Job.{Job}
 use Rattle.tor_words.specs.declared.job.Job.TheVariants.{Count, Infer, Sample, Migrate, Resume}

@@ -2,7 +2,8 @@
 use Rattle.std.specs.Prelude.{◌≡◌, ◌≤◌, ◌++◌, ◌∷◌, [], ℕ, List, length, map, Ok, Option, None, Some, unwrap_or}
 use Rattle.std.specs.Io.KnownBytes.{append_known}
 use Rattle.tor_io.specs.Contents.{Files}
-use Rattle.path_table.specs.Rows.{row_paths}
+use Rattle.path_table.specs.Rows.{Counted, row_paths}
+use Rattle.path_order.specs.Orders.{ordered, ordered_behind}
 use Rattle.relationships.specs.declared.given.Given.{Given}
 use Rattle.dump_read.specs.declared.taking.Taken.{Taken}
 use Rattle.as_rel.specs.Serial.{rel_in, rel_text}
@@ -20,7 +21,7 @@ use Rattle.run_base.specs.Reading.{IsOfSomeDumps}
 use Rattle.tor_words.specs.declared.job.Job.{Job}
 use Rattle.tor_words.specs.declared.job.Job.TheVariants.{Count, Infer, Sample, Migrate, Resume}
 use Rattle.tor_words.specs.declared.settings.Settings.{Settings}
-use Rattle.tor_words.specs.declared.task.Counted.{Counted}
+use Rattle.tor_words.specs.declared.task.Counted.{Counted as What}
 use Rattle.tor_words.specs.declared.task.Counted.TheVariants.{Listing, Survey}
 use Rattle.tor_words.specs.declared.task.Made.{Made}
 use Rattle.tor_words.specs.declared.task.Made.TheVariants as made
@@ -32,18 +33,28 @@ use Rattle.tor_output.specs.Seen.{Outcome, Reads, Joins, Holds, Stops, Ends, Com
 use Rattle.tor_output.specs.Summary.{summary}
 use Rattle.tor_output.specs.Written.{Written}
 
+-- ---- distinct paths
+
+-- those that the dumps gave, each with its times, in the order of the settings
+abbrev pub paths_taken : Settings → Taken → List Counted
+paths_taken settings taken = ordered settings.order taken.table.rows
+
+-- those of an earlier result as they stand there, and behind them, in that order, those that only the dumps gave
+abbrev pub paths_joined : Settings → (earlier : ResultFile) → Taken → List Counted
+paths_joined settings earlier taken = ordered_behind settings.order (length earlier.paths) taken.table.rows
+
 -- ---- the result of what the dumps gave
 
--- it has exactly their paths, times and counts, has what is known, and for these what follows from the definitions; that a checker
+-- it has exactly their paths in order, times and counts, has what is known, and for these what follows from the definitions; that a checker
 -- accepts it follows too (Accepting.antt)
 abbrev pub Faithful : Settings → Option (List Given) → Taken → ResultFile → Type 0
-Faithful settings known taken file = IsResultWith known settings.sets settings.ratio taken.table.rows taken.counts file
+Faithful settings known taken file = IsResultWith known settings.sets settings.ratio (paths_taken settings taken) taken.counts file
 
 -- the result of what the dumps gave on top of an earlier one: it has exactly the paths, times and counts of both, the earlier one's sets
 -- and givens, and for these what follows from the definitions; and its first path lines are those of the earlier one but for their times
 abbrev pub IsResumed : Settings → (earlier : ResultFile) → Taken → ResultFile → Type 0
 IsResumed settings earlier taken file =
-    IsResultWith earlier.givens earlier.sets settings.ratio taken.table.rows taken.counts file × Continues earlier file
+    IsResultWith earlier.givens earlier.sets settings.ratio (paths_joined settings earlier taken) taken.counts file × Continues earlier file
 
 -- ---- what is written
 
@@ -52,9 +63,9 @@ abbrev pub IsSerialOf : ResultFile → List ℕ → Type 0
 IsSerialOf file text = (text ≡ rel_text (map line_of_edge file.edges)) × (rel_in text ≡ Ok (map line_of_edge file.edges))
 
 -- what is counted of what the dumps gave: a line for each path, or the lines of the survey
-abbrev pub IsCounted : Counted → Taken → Written → Type 0
-IsCounted Listing taken output = (output.text ≡ listing taken.table.rows) × (output.note ≡ [])
-IsCounted Survey taken output = (output.text ≡ survey_text (survey_of taken)) × (output.note ≡ [])
+abbrev pub IsCounted : What → Settings → Taken → Written → Type 0
+IsCounted Listing settings taken output = (output.text ≡ listing (paths_taken settings taken)) × (output.note ≡ [])
+IsCounted Survey settings taken output = (output.text ≡ survey_text (survey_of taken)) × (output.note ≡ [])
 
 -- what is made of what is known and what the dumps gave: the text of the result, and its summary as a note; the lines of the ties of their
 -- paths; or the lines of what the labels of the result say
@@ -62,7 +73,7 @@ abbrev pub IsMade : Made → Settings → Option (List Given) → Taken → Writ
 IsMade made.Result settings known taken output =
     (file : ResultFile) × Faithful settings known taken file × IsTextOf file output.text × (output.note ≡ summary file ++ 10 ∷ [])
 IsMade made.Ties settings known taken output = (lines : List TieLine) ×
-    AreTieLinesOf (unwrap_or known []) (row_paths taken.table.rows) lines × (output.text ≡ ties_text lines) × (output.note ≡ [])
+    AreTieLinesOf (unwrap_or known []) (row_paths (paths_taken settings taken)) lines × (output.text ≡ ties_text lines) × (output.note ≡ [])
 IsMade made.Serial settings known taken output =
     (file : ResultFile) × Faithful settings known taken file × IsSerialOf file output.text × (output.note ≡ [])
 
@@ -73,7 +84,7 @@ IsSummedUp settings known taken output =
 
 -- by the job; a migration reads no dump, and what is resumed is no list of what is known
 abbrev pub IsOutputIn : Job → Settings → Option (List Given) → Taken → Written → Type 0
-IsOutputIn (Count counted dumps) settings known taken output = IsCounted counted taken output
+IsOutputIn (Count counted dumps) settings known taken output = IsCounted counted settings taken output
 IsOutputIn (Infer made given dumps) settings known taken output = IsMade made settings known taken output
 IsOutputIn (Sample seed) settings known taken output = IsSummedUp settings known taken output
 IsOutputIn (Migrate name) settings known taken output = ⊥

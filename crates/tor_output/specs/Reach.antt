@@ -1,5 +1,5 @@
 -- How far a run reads the file or the dump at which it stops.
-use Rattle.std.specs.Prelude.{◌≡◌, ◌≤◌, ◌⊎◌, ℕ, List, length, Option, Some, ⊤}
+use Rattle.std.specs.Prelude.{◌≡◌, ◌≤◌, ◌⊎◌, ℕ, List, length, Option, ⊤}
 use Rattle.std.specs.Io.KnownBytes.{IsAtEnd}
 use Rattle.tor_io.specs.Contents.{Files}
 use Rattle.dump_read.specs.declared.error.DumpError.{DumpError}

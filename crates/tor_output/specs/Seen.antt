@@ -1,6 +1,6 @@
 -- What the words and the files give: what is known, and what the dumps give in their order, or the sample; or a result; or a result that is
 -- taken up, and what the dumps give on top of it.
-use Rattle.std.specs.Prelude.{◌≡◌, ◌≤◌, ◌⊎◌, ℕ, nat_lt, if◌then◌else◌, List, [], length, Option, None, Some, IfSome, Result, Ok, Err}
+use Rattle.std.specs.Prelude.{◌≡◌, ◌≤◌, ◌⊎◌, ℕ, nat_lt, if◌then◌else◌, List, [], length, Option, None, Some, Result, Ok, Err}
 use Rattle.tor_io.specs.Contents.{Files}
 use Rattle.relationships.specs.declared.given.Given.{Given}
 use Rattle.dump_read.specs.declared.error.LimitKind.TheVariants.{Paths}

@@ -10,9 +10,9 @@ pub record Written : Type 0 where
   pub text : List ℕ
   pub note : List ℕ
 
--- a text in memory as it is; of a table what waits in the buffer, and then its list, without a note; of a result what waits in the buffer,
+-- a text in memory as it is; of paths what waits in the buffer, and then their list, without a note; of a result what waits in the buffer,
 -- and then its text, and the note as it is
 abbrev pub written : Output → Written
 written (Text text note) = record { text = text; note = note }
-written (Paths table buffer) = record { text = buffer ++ listing table.rows; note = [] }
+written (Paths paths buffer) = record { text = buffer ++ listing paths; note = [] }
 written (Result file buffer note) = record { text = buffer ++ result.text file; note = note }

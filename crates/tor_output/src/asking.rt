@@ -26,8 +26,8 @@ use tor_io::Shelf;
 use tor_words::{Job, Settings};
 
 /// What the settings ask for, worked out as a text that is not written yet. All memory is taken here. Err: why there is none. The file that
-/// is read before any dump, or a dump, isn't there, or a read of it failed; it is malformed or past a limit; the result that was to be taken
-/// up breaks a rule; or memory ran out.
+/// is read before any dump, or a dump, isn't there, or a read of it failed; it is malformed or past a limit; the result that was to be
+/// taken up breaks a rule; or memory ran out.
 pub fn output_for<H: Shelf>(
     alloc: Global,
     keys: Keys,

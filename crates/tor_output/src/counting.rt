@@ -13,9 +13,10 @@ ghost use Rattle.tor_output.specs.Refusals.{IsFailedRead, IsUnwrittenIn};
 ghost use Rattle.tor_output.specs.Seen.{Outcome, ComesOfSome};
 ghost use Rattle.tor_output.specs.Written.{written};
 ghost use Rattle.tor_output.specs.Listing.{listing};
-ghost use Rattle.tor_output.specs.Output.{IsCounted, IsOutput, IsOutputOf};
+ghost use Rattle.tor_output.specs.Output.{IsCounted, IsOutput, IsOutputOf, paths_taken};
 
 use crate::dumps::dumps_taken;
+use crate::ordering::paths_in_order;
 use crate::output::Output;
 use crate::unwritten::Unwritten;
 use dump_read::Taken;
@@ -27,8 +28,8 @@ use tor_survey::{survey_of, text_of};
 use tor_words::{Counted, Name, Settings};
 
 // The list of the distinct paths that the dumps gave. What it takes is all taken here.
-fn listing_output(alloc: Global, taken: Taken) -> Result<Output, NoMemory>
-    ensures text { IfOk result (λ output. (written output).text ≡ listing taken.table.rows) }
+fn listing_output(alloc: Global, settings: &Settings, taken: Taken) -> Result<Output, NoMemory>
+    ensures text { IfOk result (λ output. (written output).text ≡ listing (paths_taken settings.now taken)) }
     ensures note { IfOk result (λ output. (written output).note ≡ []) }
 {
     let Taken {
@@ -37,10 +38,11 @@ fn listing_output(alloc: Global, taken: Taken) -> Result<Output, NoMemory>
         files,
     } = taken;
     drop(files);
+    let paths = paths_in_order(alloc, settings, table)?;
     match Buffer::new(alloc) {
-        Ok(buffer) => Ok(Output::Paths(table, buffer)),
+        Ok(buffer) => Ok(Output::Paths(paths, buffer)),
         Err(NoMemory) => {
-            drop(table);
+            drop(paths);
             Err(NoMemory)
         }
     }
@@ -58,11 +60,17 @@ fn survey_output(alloc: Global, keys: Keys, taken: Taken) -> Result<Output, NoMe
 }
 
 // What is counted of what the dumps gave.
-fn counted_of(alloc: Global, keys: Keys, counted: Counted, taken: Taken) -> Result<Output, NoMemory>
-    ensures { IfOk result (λ output. IsCounted counted taken (written output)) }
+fn counted_of(
+    alloc: Global,
+    keys: Keys,
+    settings: &Settings,
+    counted: Counted,
+    taken: Taken,
+) -> Result<Output, NoMemory>
+    ensures { IfOk result (λ output. IsCounted counted settings.now taken (written output)) }
 {
     match counted {
-        Counted::Listing => listing_output(alloc, taken),
+        Counted::Listing => listing_output(alloc, settings, taken),
         Counted::Survey => survey_output(alloc, keys, taken),
     }
 }
@@ -93,7 +101,7 @@ pub(crate) fn counted_output<H: Shelf>(
     ensures reads_shelf { ReadsShelf H.Shelf (IsErrAnd result IsFailedRead) shelf.old shelf.new }
 {
     match dumps_taken(alloc, keys, settings, dumps, shelf) {
-        Ok(taken) => match counted_of(alloc, keys, counted, taken) {
+        Ok(taken) => match counted_of(alloc, keys, settings, counted, taken) {
             Ok(output) => Ok(output),
             Err(NoMemory) => Err(Unwritten::Refused(Refusal::NoMemory)),
         },

@@ -24,6 +24,7 @@ ghost use Rattle.tor_output.specs.Output.{IsMade, IsOutput, IsOutputOf};
 
 use crate::dumps::dumps_taken;
 use crate::first::givens_for;
+use crate::ordering::paths_in_order;
 use crate::output::{Output, faithful_result, has_table_rows, text_and_summary};
 use crate::unwritten::Unwritten;
 use as_rel::{print_rel, rel_of};
@@ -32,7 +33,7 @@ use relationships::Given;
 use result_text::EdgeLine;
 use run_base::Refusal;
 use std::alloc::Global;
-use ties::{TieLine, ties_of_table};
+use ties::{TieLine, ties_of_paths};
 use tor_arena::{Keys, List, NoMemory};
 use tor_io::Shelf;
 use tor_words::{Made, Name, Settings};
@@ -90,7 +91,10 @@ fn ties_output(
         files,
     } = taken;
     drop(files);
-    let lines = ties_of_table(alloc, keys, given_slice(&givens), table);
+    let lines = match paths_in_order(alloc, settings, table) {
+        Ok(paths) => ties_of_paths(alloc, keys, given_slice(&givens), paths),
+        Err(NoMemory) => Err(NoMemory),
+    };
     drop(givens);
     let lines = lines?;
     let output = ties_alone(alloc, lines.as_slice());

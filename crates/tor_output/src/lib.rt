@@ -9,6 +9,7 @@ mod first;
 mod inferring;
 mod listing;
 mod migrating;
+mod ordering;
 mod output;
 mod resuming;
 mod sampling;

@@ -16,8 +16,10 @@ ghost use Rattle.tor_output.specs.Summary.{summary};
 ghost use Rattle.tor_output.specs.Written.{written};
 
 use crate::listing::write_list;
+use crate::ordering::paths_in_order;
 use crate::summary::summary_text;
 use dump_read::Taken;
+use path_order::DistinctPaths;
 use path_table::PathTable;
 use rel_infer::{ResultHead, result_with};
 use relationships::Given;
@@ -32,8 +34,8 @@ use tor_words::Settings;
 pub enum Output {
     /// A text that lies in memory, and its note.
     Text(List<u8>, List<u8>),
-    /// The list of a table's paths, which is made while it goes through the buffer. It has no note.
-    Paths(PathTable, Buffer),
+    /// The list of distinct paths, which is made while it goes through the buffer. It has no note.
+    Paths(DistinctPaths, Buffer),
     /// A result, whose text is made while it goes through the buffer, and its note.
     Result {
         file: ResultFile,
@@ -52,7 +54,7 @@ impl Output {
     {
         match self {
             Output::Text(text, note) => put_text(out, text, note),
-            Output::Paths(table, buffer) => put_paths(alloc, out, table, buffer),
+            Output::Paths(paths, buffer) => put_paths(alloc, out, paths, buffer),
             Output::Result { file, buffer, note } => put_result(out, file, buffer, note),
         }
     }
@@ -76,20 +78,20 @@ fn put_text<O: Sink>(out: &mut O, text: List<u8>, note: List<u8>) -> Result<List
     }
 }
 
-// Writes what waits in the buffer, and then the list of a table's paths. It has no note.
+// Writes what waits in the buffer, and then the list of distinct paths. It has no note.
 fn put_paths<O: Sink>(
     alloc: Global,
     out: &mut O,
-    table: PathTable,
+    paths: DistinctPaths,
     mut buffer: Buffer,
 ) -> Result<List<u8>, Failed>
-    ensures all { OnOk result (O.held out.new ≡ append_known (O.held out.old) (buffer ++ listing table.rows)) }
+    ensures all { OnOk result (O.held out.new ≡ append_known (O.held out.old) (buffer ++ listing paths)) }
     ensures note { IfOk result (λ n. n ≡ []) }
-    ensures prefix { OnErr result (GainsPrefix (O.held out.old) (O.held out.new) (buffer ++ listing table.rows)) }
+    ensures prefix { OnErr result (GainsPrefix (O.held out.old) (O.held out.new) (buffer ++ listing paths)) }
     ensures cause { HasCause (O.faults out.old) (O.faults out.new) result }
 {
-    let put = write_list(out, &mut buffer, &table);
-    drop(table);
+    let put = write_list(out, &mut buffer, &paths);
+    drop(paths);
     drop(buffer);
     match put {
         Ok(()) => Ok(List::new(alloc)),
@@ -178,12 +180,16 @@ pub(crate) fn faithful_result(
         files,
     } = taken;
     drop(files);
+    let Ok(paths) = paths_in_order(alloc, settings, table) else {
+        drop(givens);
+        return Err(NoMemory);
+    };
     let head = ResultHead {
         sets: settings.sets,
         ratio: settings.ratio,
         asides: counts,
     };
-    result_with(alloc, keys, head, givens, table)
+    result_with(alloc, keys, head, givens, paths)
 }
 
 /// A result that is to be written, with this note. What its text takes is all taken here.

@@ -23,6 +23,7 @@ ghost use Rattle.tor_output.specs.Seen.{Outcome, ComesOfSome, joined};
 ghost use Rattle.tor_output.specs.Written.{written};
 
 use crate::first::earlier_in;
+use crate::ordering::paths_behind;
 use crate::output::{Output, has_table_rows, text_and_summary};
 use crate::unwritten::Unwritten;
 use dump_read::{DumpError, LimitKind, Taken};
@@ -109,7 +110,13 @@ fn resumed_result(
         files,
     } = taken;
     drop(files);
-    result_resumed(alloc, keys, settings.ratio, earlier, table, counts)
+    match paths_behind(alloc, settings, earlier.fates.len(), table) {
+        Ok(paths) => result_resumed(alloc, keys, settings.ratio, earlier, paths, counts),
+        Err(NoMemory) => {
+            drop(earlier);
+            Err(NoMemory)
+        }
+    }
 }
 
 // Its text, and its summary.

@@ -1,9 +1,10 @@
 -- Words that were read by hand, as clap reads them.
-use Rattle.std.proofs.Common.{◌≡◌, [], ◌∷◌, Some, None, refl}
+use Rattle.std.proofs.Common.{◌≡◌, [], ◌∷◌, Some, None, true, false, refl}
 use Rattle.std.specs.Prelude.{codes}
 use Rattle.clap.specs.Faults.{flags_fault, walk_fault, defaults_fault}
 use Rattle.clap.specs.Walk.{bundle_met, walked}
 use Rattle.path_clean.specs.declared.cleaned.Sets.TheVariants.{Cut, Skip}
+use Rattle.path_order.specs.declared.choice.Order.TheVariants.{Seen, Short}
 use Rattle.tor_words.specs.declared.job.Job.{Job}
 use Rattle.tor_words.specs.declared.job.Job.TheVariants.{Count, Infer, Sample, Migrate, Resume}
 use Rattle.tor_words.specs.declared.settings.Settings.{Settings}
@@ -16,7 +17,7 @@ use Rattle.tor_words.specs.TorcheckCommand.{torcheck_command}
 
 -- what is set where no option is named
 abbrev by_default : Job → Settings
-by_default job = record { job = job; sets = Cut; ratio = 60; max_paths = 8388608 }
+by_default job = record { job = job; sets = Cut; order = Seen; ratio = 60; max_paths = 8388608 }
 
 one_dump : settings_given (codes "d" ∷ []) ≡ Some (by_default (Infer Result None (codes "d" ∷ [])))
 unfolding settings_given tor_command bundle_met walked flags_fault walk_fault defaults_fault
@@ -130,20 +131,49 @@ dashes_for_names : settings_given (codes "--resume" ∷ codes "-" ∷ codes "-" 
 unfolding settings_given tor_command bundle_met walked flags_fault walk_fault defaults_fault
 dashes_for_names = refl
 
+shortest_first : settings_given (codes "--order" ∷ codes "short" ∷ codes "d" ∷ []) ≡ Some (record (by_default (Infer Result None (codes "d" ∷ []))) { order = Short })
+unfolding settings_given tor_command bundle_met walked flags_fault walk_fault defaults_fault
+shortest_first = refl
+
+order_as_seen : settings_given (codes "--list" ∷ codes "--order=seen" ∷ codes "d" ∷ []) ≡ Some (by_default (Count Listing (codes "d" ∷ [])))
+unfolding settings_given tor_command bundle_met walked flags_fault walk_fault defaults_fault
+order_as_seen = refl
+
+order_of_a_sample : settings_given (codes "--order" ∷ codes "short" ∷ codes "--sample" ∷ codes "7" ∷ []) ≡ Some (record (by_default (Sample 7)) { order = Short })
+unfolding settings_given tor_command bundle_met walked flags_fault walk_fault defaults_fault
+order_of_a_sample = refl
+
+order_behind_an_earlier_result : settings_given (codes "--resume" ∷ codes "r" ∷ codes "d" ∷ codes "--order" ∷ codes "short" ∷ [])
+    ≡ Some (record (by_default (Resume (codes "r") (codes "d" ∷ []))) { order = Short })
+unfolding settings_given tor_command bundle_met walked flags_fault walk_fault defaults_fault
+order_behind_an_earlier_result = refl
+
+another_order : settings_given (codes "--order" ∷ codes "long" ∷ codes "d" ∷ []) ≡ None
+unfolding settings_given tor_command bundle_met walked flags_fault walk_fault defaults_fault
+another_order = refl
+
+order_twice : settings_given (codes "--order" ∷ codes "short" ∷ codes "--order" ∷ codes "short" ∷ codes "d" ∷ []) ≡ None
+unfolding settings_given tor_command bundle_met walked flags_fault walk_fault defaults_fault
+order_twice = refl
+
 -- ---- words of a check
 
-a_result : check_settings_given (codes "r" ∷ []) ≡ Some (record { result = codes "r"; dumps = [] })
+any_order : check_settings_given (codes "r" ∷ codes "--any-order" ∷ codes "d" ∷ []) ≡ Some (record { result = codes "r"; dumps = codes "d" ∷ []; any_order = true })
+unfolding check_settings_given torcheck_command bundle_met walked flags_fault walk_fault defaults_fault
+any_order = refl
+
+a_result : check_settings_given (codes "r" ∷ []) ≡ Some (record { result = codes "r"; dumps = []; any_order = false })
 unfolding check_settings_given torcheck_command bundle_met walked flags_fault walk_fault defaults_fault
 a_result = refl
 
-result_and_dumps : check_settings_given (codes "r" ∷ codes "d" ∷ codes "d" ∷ []) ≡ Some (record { result = codes "r"; dumps = codes "d" ∷ codes "d" ∷ [] })
+result_and_dumps : check_settings_given (codes "r" ∷ codes "d" ∷ codes "d" ∷ []) ≡ Some (record { result = codes "r"; dumps = codes "d" ∷ codes "d" ∷ []; any_order = false })
 unfolding check_settings_given torcheck_command bundle_met walked flags_fault walk_fault defaults_fault
 result_and_dumps = refl
 
-result_of_the_name_of_a_flag : check_settings_given (codes "--" ∷ codes "--help" ∷ codes "d" ∷ []) ≡ Some (record { result = codes "--help"; dumps = codes "d" ∷ [] })
+result_of_the_name_of_a_flag : check_settings_given (codes "--" ∷ codes "--help" ∷ codes "d" ∷ []) ≡ Some (record { result = codes "--help"; dumps = codes "d" ∷ []; any_order = false })
 unfolding check_settings_given torcheck_command bundle_met walked flags_fault walk_fault defaults_fault
 result_of_the_name_of_a_flag = refl
 
-result_of_no_octet : check_settings_given (codes "" ∷ codes "-" ∷ []) ≡ Some (record { result = codes ""; dumps = codes "-" ∷ [] })
+result_of_no_octet : check_settings_given (codes "" ∷ codes "-" ∷ []) ≡ Some (record { result = codes ""; dumps = codes "-" ∷ []; any_order = false })
 unfolding check_settings_given torcheck_command bundle_met walked flags_fault walk_fault defaults_fault
 result_of_no_octet = refl

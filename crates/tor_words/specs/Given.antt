@@ -9,6 +9,8 @@ use Rattle.clap.specs.Words.{Kinds, Row, Text, all_of, first_of, fault_of, match
 use Rattle.tor_arena.specs.Limits.{max_paths, max_ratio}
 use Rattle.path_clean.specs.declared.cleaned.Sets.{Sets}
 use Rattle.path_clean.specs.declared.cleaned.Sets.TheVariants.{Cut, Skip}
+use Rattle.path_order.specs.declared.choice.Order.{Order}
+use Rattle.path_order.specs.declared.choice.Order.TheVariants.{Seen, Short}
 use Rattle.tor_words.specs.declared.job.Job.{Job}
 use Rattle.tor_words.specs.declared.job.Job.TheVariants.{Count, Infer, Sample, Migrate, Resume}
 use Rattle.tor_words.specs.declared.settings.Settings.{Settings}
@@ -42,6 +44,13 @@ sets_or_cut None = Some Cut
 sets_or_cut (Some text) =
     if bytes_eq text (codes "cut") then Some Cut
     else if bytes_eq text (codes "skip") then Some Skip else None
+
+-- in which order distinct paths are taken: `seen` or `short`, and as seen where the option isn't there
+abbrev pub order_or_seen : Option Text → Option Order
+order_or_seen None = Some Seen
+order_or_seen (Some text) =
+    if bytes_eq text (codes "seen") then Some Seen
+    else if bytes_eq text (codes "short") then Some Short else None
 
 -- whether a flag is set
 abbrev pub is_true_text : Option Text → Bool
@@ -146,8 +155,10 @@ settings_in rows =
     option_and_then (λ sets.
     option_and_then (λ ratio.
     option_and_then (λ most.
-    option_map (λ job. record { job = job; sets = sets; ratio = ratio; max_paths = most })
+    option_and_then (λ order.
+    option_map (λ job. record { job = job; sets = sets; order = order; ratio = ratio; max_paths = most })
     (job_in rows task))
+    (order_or_seen (first_of (codes "order") rows)))
     (number_or 1 max_paths max_paths (first_of (codes "max-paths") rows)))
     (number_or 0 max_ratio 60 (first_of (codes "ratio") rows)))
     (sets_or_cut (first_of (codes "as-sets") rows)))

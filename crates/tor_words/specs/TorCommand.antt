@@ -1,6 +1,6 @@
 -- The command line of `tor`, as clap reads it:
 -- `tor [--list] [--survey] [--ties] [--serial1] [--as-sets VALUE] [--ratio NUMBER] [--max-paths NUMBER] [--sample NUMBER]
--- [--given FILE] [--migrate] [--resume RESULT] [DUMP ..]`.
+-- [--given FILE] [--migrate] [--resume RESULT] [--order VALUE] [DUMP ..]`.
 use Rattle.std.specs.Prelude.{[], ◌∷◌, codes}
 use Rattle.clap.specs.Words.{App}
 use Rattle.tor_arena.specs.Limits.{max_paths, max_ratio}
@@ -19,5 +19,6 @@ tor_command = command_of (codes "tor")
     ∷ option_rule (codes "given")
     ∷ flag_rule (codes "migrate")
     ∷ option_rule (codes "resume")
+    ∷ option_rule (codes "order")
     ∷ rest_rule (codes "dump")
     ∷ [])

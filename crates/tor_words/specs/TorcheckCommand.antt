@@ -1,7 +1,8 @@
--- The command line of `torcheck`, as clap reads it: `torcheck RESULT [DUMP ..]`.
+-- The command line of `torcheck`, as clap reads it: `torcheck [--any-order] RESULT [DUMP ..]`.
 use Rattle.std.specs.Prelude.{[], ◌∷◌, codes}
 use Rattle.clap.specs.Words.{App}
-use Rattle.tor_words.specs.Rules.{command_of, needed_rule, rest_rule}
+use Rattle.tor_words.specs.Rules.{command_of, flag_rule, needed_rule, rest_rule}
 
 unfoldable pub torcheck_command : App
-torcheck_command = command_of (codes "torcheck") (needed_rule (codes "result") ∷ rest_rule (codes "dump") ∷ [])
+torcheck_command = command_of (codes "torcheck")
+    (flag_rule (codes "any-order") ∷ needed_rule (codes "result") ∷ rest_rule (codes "dump") ∷ [])

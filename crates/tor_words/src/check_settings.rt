@@ -5,7 +5,7 @@ ghost use Rattle.tor_words.specs.CheckGiven.{check_settings_in, check_settings_g
 ghost use Rattle.tor_words.specs.Refused.{IsUsage, SaysUsage};
 
 use crate::command::check_command;
-use crate::found::{first, names_in};
+use crate::found::{first, has_flag, names_in};
 use crate::matching::matches_of;
 use crate::name::Name;
 use crate::refused::{WordsRefused, usage};
@@ -20,6 +20,8 @@ pub struct CheckSettings {
     pub result: Name,
     /// The names of the dumps, maybe none, in the order in which they are read.
     pub dumps: List<Name>,
+    /// Whether the result may have the paths of the dumps in any order.
+    pub any_order: bool,
 }
 
 // The settings that the matches give, if the result is named.
@@ -38,6 +40,7 @@ fn check_settings_in(alloc: Global, matches: &ArgMatches) -> Result<CheckSetting
         Ok(dumps) => Ok(CheckSettings {
             result: name,
             dumps,
+            any_order: has_flag(matches, "any-order"),
         }),
         Err(_) => {
             drop(name);

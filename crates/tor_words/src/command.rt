@@ -9,15 +9,18 @@ use clap::Command;
 use std::alloc::{AllocError, Global};
 use tor_arena::{MAX_PATHS, MAX_RATIO};
 
-/// What help says of two of the options.
+/// What help says of some of the options.
 const GIVEN_HELP: &str =
     "Infer under known relationships, lines of serial-1: provider|customer|-1 is binding, peer|peer|0 is only checked";
 
 const RESUME_HELP: &str =
     "Add the dumps to this result, which must meet all rules: its kept paths stay kept and its lost paths lost; labels are new";
 
+const ORDER_HELP: &str =
+    "Take the distinct paths as seen, or short: shorter ones first, so that the records' order changes no label [default: seen]";
+
 /// The options and the operands of `tor`.
-static TOR: [Entry; 12] = [
+static TOR: [Entry; 13] = [
     Entry::Flag(
         "list",
         "Write only the distinct AS paths, each with its number of routes",
@@ -62,14 +65,19 @@ static TOR: [Entry; 12] = [
         "Write the named result in version 2 of its text; no dump is read",
     ),
     Entry::Choice("resume", RESUME_HELP),
+    Entry::Choice("order", ORDER_HELP),
     Entry::Rest(
         "dump",
         "Uncompressed MRT table dumps, read in this order; /dev/stdin can be named once",
     ),
 ];
 
-/// The operands of `torcheck`.
-static TORCHECK: [Entry; 2] = [
+/// The option and the operands of `torcheck`.
+static TORCHECK: [Entry; 3] = [
+    Entry::Flag(
+        "any-order",
+        "Let the result have the tables' paths in any order",
+    ),
     Entry::Needed("result", "The result to judge"),
     Entry::Rest(
         "dump",

@@ -2,7 +2,7 @@
 ghost use Rattle.std.specs.Prelude.{◌≡◌, ◌≤◌, IfOk, IfErr, OnErr, Some, None, codes};
 ghost use Rattle.clap.specs.Words.{found_of, rows_of, first_of};
 ghost use Rattle.tor_arena.specs.Limits.{max_paths, max_ratio};
-ghost use Rattle.tor_words.specs.Given.{settings_in, settings_given, task_in, job_in, number_or, sets_or_cut};
+ghost use Rattle.tor_words.specs.Given.{settings_in, settings_given, task_in, job_in, number_or, order_or_seen, sets_or_cut};
 ghost use Rattle.tor_words.specs.Refused.{IsUsage, SaysUsage};
 
 use crate::command::command;
@@ -12,9 +12,10 @@ use crate::matching::matches_of;
 use crate::name::Name;
 use crate::refused::{WordsRefused, usage};
 use crate::task::{Task, refusal_in, task_in};
-use crate::values::{number_or, sets_or_cut};
+use crate::values::{number_or, order_or_seen, sets_or_cut};
 use clap::ArgMatches;
 use path_clean::Sets;
+use path_order::Order;
 use std::alloc::Global;
 use tor_arena::{List, MAX_PATHS, MAX_RATIO};
 
@@ -25,6 +26,8 @@ pub struct Settings {
     pub job: Job,
     /// What becomes of sets in AS_PATHs, but where an earlier result is taken up, which says it.
     pub sets: Sets,
+    /// In which order distinct paths are taken, but for those of an earlier result that is taken up, which stay as they are.
+    pub order: Order,
     /// How many times the lesser degree of an edge's two ends the greater one may be at most, so that the edge can become a
     /// peering: from 0, where none can, to 1000000.
     pub ratio: u32,
@@ -37,6 +40,7 @@ pub struct Settings {
 struct Choices {
     task: Task,
     sets: Sets,
+    order: Order,
     ratio: u32,
     max_paths: u32,
 }
@@ -49,6 +53,7 @@ const ONE_ALONE: &str =
 fn choices_in(matches: &ArgMatches) -> Result<Choices, &'static str>
     ensures task { IfOk result (λ c. task_in (rows_of (found_of matches.now)) ≡ Some c.task) }
     ensures sets { IfOk result (λ c. sets_or_cut (first_of (codes "as-sets") (rows_of (found_of matches.now))) ≡ Some c.sets) }
+    ensures order { IfOk result (λ c. order_or_seen (first_of (codes "order") (rows_of (found_of matches.now))) ≡ Some c.order) }
     ensures ratio { IfOk result (λ c. number_or 0 max_ratio 60 (first_of (codes "ratio") (rows_of (found_of matches.now))) ≡ Some c.ratio) }
     ensures most { IfOk result (λ c.
         number_or 1 max_paths max_paths (first_of (codes "max-paths") (rows_of (found_of matches.now))) ≡ Some c.max_paths) }
@@ -62,6 +67,9 @@ fn choices_in(matches: &ArgMatches) -> Result<Choices, &'static str>
     };
     let Some(sets) = sets_or_cut(first(matches, "as-sets")) else {
         return Err("--as-sets takes cut or skip\n");
+    };
+    let Some(order) = order_or_seen(first(matches, "order")) else {
+        return Err("--order takes seen or short\n");
     };
     let Some(ratio) = number_or(first(matches, "ratio"), 0, MAX_RATIO as u64, 60) else {
         return Err("--ratio takes a number from 0 to 1000000\n");
@@ -77,6 +85,7 @@ fn choices_in(matches: &ArgMatches) -> Result<Choices, &'static str>
     Ok(Choices {
         task,
         sets,
+        order,
         ratio: ratio as u32,
         max_paths: max_paths as u32,
     })
@@ -120,6 +129,7 @@ fn settings_in(alloc: Global, matches: &ArgMatches) -> Result<Settings, WordsRef
         Ok(job) => Ok(Settings {
             job,
             sets: choices.sets,
+            order: choices.order,
             ratio: choices.ratio,
             max_paths: choices.max_paths,
         }),

@@ -1,8 +1,9 @@
 //! The values of options.
 ghost use Rattle.std.specs.Prelude.{◌≡◌, ◌≤◌, IfSome, option_map};
-ghost use Rattle.tor_words.specs.Given.{number_in, short_number, number_or, sets_or_cut, is_true_text};
+ghost use Rattle.tor_words.specs.Given.{number_in, short_number, number_or, order_or_seen, sets_or_cut, is_true_text};
 
 use path_clean::Sets;
+use path_order::Order;
 
 /// The number of the text, where it lies within the bounds.
 pub(crate) fn number_in(text: &str, low: u64, high: u64) -> Option<u64>
@@ -55,6 +56,24 @@ pub(crate) fn sets_or_cut(text: Option<&str>) -> Option<Sets>
                 Some(Sets::Cut)
             } else if text == "skip" {
                 Some(Sets::Skip)
+            } else {
+                None
+            }
+        }
+    }
+}
+
+/// The order of distinct paths, as seen where there is no text.
+pub(crate) fn order_or_seen(text: Option<&str>) -> Option<Order>
+    ensures { result ≡ order_or_seen (option_map (λ s. s.now) text.entry) }
+{
+    match text {
+        None => Some(Order::Seen),
+        Some(text) => {
+            if text == "seen" {
+                Some(Order::Seen)
+            } else if text == "short" {
+                Some(Order::Short)
             } else {
                 None
             }

@@ -1,58 +1,59 @@
 -- The settings and the files of a check come to one outcome at most, and what a yes has shown.
-use Rattle.std.proofs.Common.{◌≡◌, ◌<◌, ◌≤◌, inl, inr, ℕ, List, [], ◌∷◌, length, Option, Some, None, Result, Ok, Err, refl, sym, ap, subst, ◌∙◌, arith}
-use Rattle.std.specs.Prelude.{IfSome}
+use Rattle.std.proofs.Common.{◌≡◌, ◌<◌, inl, inr, ℕ, Bool, true, false, List, [], ◌∷◌, length, Some, None, Ok, Err, refl, sym, ap, subst, ◌∙◌, arith}
 use Rattle.tor_io.specs.Contents.{Files}
-use Rattle.tor_arena.specs.Limits.{max_paths}
 use Rattle.result_text.specs.declared.file.ResultFile.{ResultFile}
 use Rattle.result_text.specs.Grammar.{IsTextOf}
 use Rattle.result_rules.specs.declared.verdict.Verdict.{Verdict}
 use Rattle.result_rules.specs.declared.verdict.Verdict.TheVariants.{Yes, No}
 use Rattle.result_rules.specs.Valid.{AcceptanceLaw}
 use Rattle.result_rules.proofs.OneVerdict.{one_against_law}
-use Rattle.result_rules.specs.Against.{its_rows, JudgesAgainst}
+use Rattle.any_order.proofs.OneVerdicts.{one_law}
 use Rattle.dump_read.specs.declared.taking.Taken.{Taken}
 use Rattle.dump_read.specs.Seen.{DumpsEnd}
 use Rattle.tor_words.specs.declared.check_settings.CheckSettings.{CheckSettings}
 use Rattle.run_base.specs.Programs.{Outcome, Makes, NoFile, TooLong, BadLine, Breaks, Lacks, Ends, OneOutcome, HasOctets, Gives}
-use Rattle.run_base.specs.Reading.{nothing, seen_from}
 use Rattle.run_base.specs.WholeFile.{IsLongFile}
 use Rattle.run_base.proofs.Values as values
 use Rattle.result_file.specs.Limits.{max_result}
-use Rattle.result_file.specs.Ruled.{BreaksRule, IsAccepted}
+use Rattle.result_file.specs.Ruled.{BreaksRule}
 use Rattle.result_file.proofs.OneRuling.{OneValue, none_broken, one_broken, same_file}
 use Rattle.torcheck_run.specs.declared.judging.Judged.{Judged}
 use Rattle.torcheck_run.specs.declared.judging.Judged.TheVariants.{ByFile, ByDumps}
-use Rattle.torcheck_run.specs.Checking.{GivesOutcome, GivesVerdict, Holds, JudgesDumps, checking, verdict_in}
+use Rattle.torcheck_run.specs.Checking.{GivesOutcome, GivesVerdict, Holds, JudgesDumps, JudgesTaken, checking, verdict_in}
 use Rattle.torcheck_run.specs.Judging.{IsVerdict, IsVouched, JudgesByDumps, seen_for}
 
 -- ---- yes and no
 
 -- the dumps say one thing
-by_dumps : (file : ResultFile) (dumps : List (List ℕ)) (files : Files) (v w : Verdict) → JudgesByDumps file dumps files v → JudgesByDumps file dumps files w → v ≡ w
-by_dumps file [] files v w one other = one ∙ sym other
-by_dumps file (dump ∷ dumps) files v w one other =
-    let same : other.0 ≡ one.0 = values.ok_is (seen_for file (dump ∷ dumps) files) other.0 one.0 other.1 one.1 in
-    one_against_law file one.0.table.rows one.0.counts v w one.2 (subst (λ (t : Taken). JudgesAgainst file t.table.rows t.counts w) same other.2)
+one_taken : (any : Bool) (file : ResultFile) (taken : Taken) (v w : Verdict) → JudgesTaken any file taken v → JudgesTaken any file taken w → v ≡ w
+one_taken false file taken v w one other = one_against_law file taken.table.rows taken.counts v w one other
+one_taken true file taken v w one other = one_law file taken.table.rows taken.counts v w one other
 
-pub one_verdict : OneValue → (bytes : List ℕ) (dumps : List (List ℕ)) (files : Files) (v w : Verdict) → IsVerdict bytes dumps files v → IsVerdict bytes dumps files w → v ≡ w
-one_verdict law bytes dumps files v w (inl one) (inl other) = one_broken law bytes v w one other
-one_verdict law bytes dumps files v w (inl one) (inr other) = absurd (none_broken law bytes other.0 v other.1 one)
-one_verdict law bytes dumps files v w (inr one) (inl other) = absurd (none_broken law bytes one.0 w one.1 other)
-one_verdict law bytes dumps files v w (inr one) (inr other) =
+by_dumps : (any : Bool) (file : ResultFile) (dumps : List (List ℕ)) (files : Files) (v w : Verdict) → JudgesByDumps any file dumps files v → JudgesByDumps any file dumps files w → v ≡ w
+by_dumps any file [] files v w one other = one ∙ sym other
+by_dumps any file (dump ∷ dumps) files v w one other =
+    let same : other.0 ≡ one.0 = values.ok_is (seen_for file (dump ∷ dumps) files) other.0 one.0 other.1 one.1 in
+    one_taken any file one.0 v w one.2 (subst (λ (t : Taken). JudgesTaken any file t w) same other.2)
+
+pub one_verdict : OneValue → (any : Bool) (bytes : List ℕ) (dumps : List (List ℕ)) (files : Files) (v w : Verdict) → IsVerdict any bytes dumps files v → IsVerdict any bytes dumps files w → v ≡ w
+one_verdict law any bytes dumps files v w (inl one) (inl other) = one_broken law bytes v w one other
+one_verdict law any bytes dumps files v w (inl one) (inr other) = absurd (none_broken law bytes other.0 v other.1 one)
+one_verdict law any bytes dumps files v w (inr one) (inl other) = absurd (none_broken law bytes one.0 w one.1 other)
+one_verdict law any bytes dumps files v w (inr one) (inr other) =
     let same : other.0 ≡ one.0 = same_file law bytes other.0 one.0 other.1.text one.1.text in
-    by_dumps one.0 dumps files v w one.2 (subst (λ f. JudgesByDumps f dumps files w) same other.2)
+    by_dumps any one.0 dumps files v w one.2 (subst (λ f. JudgesByDumps any f dumps files w) same other.2)
 
 -- ---- outcomes
 
 -- where the files are known
-pub as_known : (file : ResultFile) (dumps : List (List ℕ)) (files : Files) (v : Verdict) → JudgesDumps (Some files) file dumps v → JudgesByDumps file dumps files v
-as_known file [] files v judged = judged
-as_known file (dump ∷ dumps) files v judged = judged
+pub as_known : (any : Bool) (file : ResultFile) (dumps : List (List ℕ)) (files : Files) (v : Verdict) → JudgesDumps any (Some files) file dumps v → JudgesByDumps any file dumps files v
+as_known any file [] files v judged = judged
+as_known any file (dump ∷ dumps) files v judged = judged
 
 -- where a verdict comes of the dumps these have no end
-no_end : (file : ResultFile) (dumps : List (List ℕ)) (files : Files) (verdict : Verdict) (end : DumpsEnd) → JudgesDumps (Some files) file dumps verdict → seen_for file dumps files ≡ Err end → ⊥
-no_end file [] files verdict end judged ends = values.ok_not_err (seen_for file [] files) _ end refl ends
-no_end file (dump ∷ dumps) files verdict end judged ends = values.ok_not_err (seen_for file (dump ∷ dumps) files) judged.0 end judged.1 ends
+no_end : (any : Bool) (file : ResultFile) (dumps : List (List ℕ)) (files : Files) (verdict : Verdict) (end : DumpsEnd) → JudgesDumps any (Some files) file dumps verdict → seen_for file dumps files ≡ Err end → ⊥
+no_end any file [] files verdict end judged ends = values.ok_not_err (seen_for file [] files) _ end refl ends
+no_end any file (dump ∷ dumps) files verdict end judged ends = values.ok_not_err (seen_for file (dump ∷ dumps) files) judged.0 end judged.1 ends
 
 by_file : (l r l' r' : ℕ) → No l r ≡ No l' r' → ByFile l r ≡ ByFile l' r'
 by_file l r l' r' e = cc
@@ -92,14 +93,14 @@ module _ (law : OneValue) (settings : CheckSettings) (files : Files) where
   same_judged (ByDumps v) (ByFile l r) one other = not_broken one.0 l r one.1 other
   same_judged (ByDumps v) (ByDumps w) one other =
       let same : other.0 ≡ one.0 = same_held other.0 one.0 other.1 one.1 in
-      ap ByDumps (by_dumps one.0 settings.dumps files v w (as_known one.0 settings.dumps files v one.2)
-      (as_known one.0 settings.dumps files w (subst (λ f. JudgesDumps (Some files) f settings.dumps w) same other.2)))
+      ap ByDumps (by_dumps settings.any_order one.0 settings.dumps files v w (as_known settings.any_order one.0 settings.dumps files v one.2)
+      (as_known settings.any_order one.0 settings.dumps files w (subst (λ f. JudgesDumps settings.any_order (Some files) f settings.dumps w) same other.2)))
 
   no_verdict : {X : Type 0} (j : Judged) (file : ResultFile) (end : DumpsEnd) → GivesVerdict settings (Some files) j → Holds settings (Some files) file
       → seen_for file settings.dumps files ≡ Err end → X
   no_verdict (ByFile l r) file end gives held ends = not_broken file l r held gives
   no_verdict (ByDumps v) file end gives held ends =
-      absurd (no_end file settings.dumps files v end (subst (λ f. JudgesDumps (Some files) f settings.dumps v) (same_held gives.0 file gives.1 held) gives.2) ends)
+      absurd (no_end settings.any_order file settings.dumps files v end (subst (λ f. JudgesDumps settings.any_order (Some files) f settings.dumps v) (same_held gives.0 file gives.1 held) gives.2) ends)
 
   same : (x y : Outcome Judged) → GivesOutcome settings (Some files) x → GivesOutcome settings (Some files) y → x ≡ y
   same (Makes j) (Makes k) one other = ap Makes (same_judged j k one other)
@@ -141,15 +142,15 @@ one_outcome law settings files x y one other = same law settings files x y one o
 
 -- ---- what a yes has shown
 
-agrees : (file : ResultFile) (dumps : List (List ℕ)) (files : Files) → JudgesDumps (Some files) file dumps Yes → 0 < length dumps
-    → (taken : Taken) × (seen_for file dumps files ≡ Ok taken) × (file.asides ≡ taken.counts) × (its_rows file ≡ taken.table.rows)
-agrees file [] files judged some = absurd (omega arith)
-agrees file (dump ∷ dumps) files judged some = (judged.0, judged.1, judged.2.0, judged.2.1)
+agrees : (any : Bool) (file : ResultFile) (dumps : List (List ℕ)) (files : Files) → JudgesDumps any (Some files) file dumps Yes → 0 < length dumps
+    → (taken : Taken) × (seen_for file dumps files ≡ Ok taken) × JudgesTaken any file taken Yes
+agrees any file [] files judged some = absurd (omega arith)
+agrees any file (dump ∷ dumps) files judged some = judged
 
 pub vouched : AcceptanceLaw → (words : List (List ℕ)) (files : Files) (judged : Judged) → verdict_in judged ≡ Yes → Gives checking words (Some files) (Makes judged) → IsVouched words files
 vouched law words files (ByFile line rule) is gives = absurd cc
 vouched law words files (ByDumps v) is gives =
-    let judged = subst (JudgesDumps (Some files) gives.2.0 gives.0.dumps) is gives.2.2 in
+    let judged = subst (JudgesDumps gives.0.any_order (Some files) gives.2.0 gives.0.dumps) is gives.2.2 in
     record {
       settings = gives.0;
       given = gives.1;
@@ -158,5 +159,5 @@ vouched law words files (ByDumps v) is gives =
       file = gives.2.0;
       text = gives.2.1.2.text;
       valid = law gives.2.0 gives.2.1.2.rules;
-      agrees = agrees gives.2.0 gives.0.dumps files judged;
+      agrees = agrees gives.0.any_order gives.2.0 gives.0.dumps files judged;
     }

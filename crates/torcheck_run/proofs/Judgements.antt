@@ -1,5 +1,5 @@
 -- How a check ends, by its verdict.
-use Rattle.std.proofs.Common.{◌≡◌, ◌≢◌, ◌⊎◌, ◌∙◌, ◌<◌, inl, inr, ℕ, zero, suc, List, [], ◌∷◌, length, Option, Some, None, Result, Ok, Err, refl, sym, ap, subst, arith}
+use Rattle.std.proofs.Common.{◌≡◌, ◌≢◌, ◌⊎◌, ◌∙◌, ◌<◌, inl, inr, ℕ, zero, suc, Bool, List, [], ◌∷◌, length, Option, Some, None, Result, Ok, Err, refl, sym, ap, subst, arith}
 use Rattle.std.specs.Prelude.{IfSome, IsOk}
 use Rattle.tor_arena.specs.Limits.{max_paths}
 use Rattle.tor_io.specs.Contents.{Files}
@@ -13,7 +13,6 @@ use Rattle.result_text.specs.Grammar.{IsTextOf}
 use Rattle.result_file.specs.Limits.{max_result}
 use Rattle.result_file.specs.Ruled.{IsAccepted}
 use Rattle.tor_words.specs.Refused.{HasUsageLine}
-use Rattle.result_rules.specs.Against.{JudgesAgainst}
 use Rattle.result_rules.specs.Valid.{AcceptanceLaw}
 use Rattle.result_rules.specs.declared.verdict.Verdict.{Verdict}
 use Rattle.result_rules.specs.declared.verdict.Verdict.TheVariants.{Yes, No}
@@ -24,23 +23,22 @@ use Rattle.run_base.specs.declared.status.Status.TheVariants as status
 use Rattle.run_base.specs.Notes.{plain_note}
 use Rattle.run_base.specs.Programs.{Outcome, Makes, NoFile, TooLong, BadLine, Breaks, Lacks, Ends, DumpsGive, status_of_end}
 use Rattle.run_base.specs.Programs.{status_of as outcome_status}
-use Rattle.run_base.specs.Promises.{Ending, Came, FailedRead, FailedWrite, OutOfMemory, EndsIn, MayEnd, RunEnds, absent_at, status_at}
+use Rattle.run_base.specs.Promises.{Ending, Came, FailedRead, FailedWrite, OutOfMemory, MayEnd, RunEnds, absent_at, status_at}
 use Rattle.run_base.specs.Reading.{nothing}
-use Rattle.run_base.specs.WholeFile.{IsLongFile}
 use Rattle.run_base.proofs.Endings.{IsWritten}
 use Rattle.run_base.proofs.Statuses.{not_quiet}
 use Rattle.run_base.proofs.Values as values
 use Rattle.torcheck_run.specs.declared.judging.Judged.{Judged}
-use Rattle.torcheck_run.specs.Checking.{GivesOutcome, Holds, JudgesDumps, checking, status_of, verdict_in}
+use Rattle.torcheck_run.specs.Checking.{GivesOutcome, Holds, JudgesDumps, JudgesTaken, checking, status_of, verdict_in}
 use Rattle.torcheck_run.specs.Judging.{CanBeJudged, IsVouched, seen_for}
 use Rattle.torcheck_run.proofs.Comings.{vouched}
 
 -- ---- the verdict
 
-pub some_dumps : (known : Option Files) (file : ResultFile) (dumps : List (List ℕ)) (taken : Taken) (verdict : Verdict) → 0 < length dumps
-    → DumpsGive known file.sets dumps (nothing max_paths) taken → JudgesAgainst file taken.table.rows taken.counts verdict → JudgesDumps known file dumps verdict
-some_dumps known file [] taken verdict some seen judged = absurd (omega (arith, some))
-some_dumps known file (dump ∷ dumps) taken verdict some seen judged = (taken, seen, judged)
+pub some_dumps : (any : Bool) (known : Option Files) (file : ResultFile) (dumps : List (List ℕ)) (taken : Taken) (verdict : Verdict) → 0 < length dumps
+    → DumpsGive known file.sets dumps (nothing max_paths) taken → JudgesTaken any file taken verdict → JudgesDumps any known file dumps verdict
+some_dumps any known file [] taken verdict some seen judged = absurd (omega (arith, some))
+some_dumps any known file (dump ∷ dumps) taken verdict some seen judged = (taken, seen, judged)
 
 pub no_note : (v : Verdict) → plain_note (status_of v) ≡ []
 no_note Yes = refl

@@ -1,5 +1,5 @@
 -- What a check makes of its files, where it stops.
-use Rattle.std.proofs.Common.{◌≡◌, ◌++◌, ◌∷◌, ℕ, List, [], length, take, Option, Some, None, Ok, Err, refl, subst, ◌∙◌}
+use Rattle.std.proofs.Common.{◌≡◌, ◌++◌, ◌∷◌, ℕ, List, [], take, Option, Some, None, Err, refl, subst}
 use Rattle.std.specs.Prelude.{IfSome}
 use Rattle.tor_arena.specs.Limits.{max_paths}
 use Rattle.tor_io.specs.Contents.{Files}
@@ -19,7 +19,7 @@ use Rattle.run_base.specs.Reach.{IsDumpInReach}
 use Rattle.run_base.specs.Reading.{nothing}
 use Rattle.run_base.specs.Stopping.{Asks, StopsDumps, ending_of}
 use Rattle.run_base.specs.WholeFile.{IsLongFile, LeavesOnly, LeavesRest}
-use Rattle.run_base.proofs.Askings.{ReadsFirst, dump_end, dumps_stopped, first_unread, whole_first}
+use Rattle.run_base.proofs.Askings.{dump_end, dumps_stopped, first_unread, whole_first}
 use Rattle.run_base.proofs.Dumps.{reach_as_before, stops_as_before}
 use Rattle.result_file.specs.Limits.{max_result}
 use Rattle.result_file.specs.Ruled.{IsAccepted, IsUnruled}

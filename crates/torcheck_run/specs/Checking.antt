@@ -1,5 +1,5 @@
 -- What `torcheck` is to its run: a result file and dumps come to a verdict, which is written.
-use Rattle.std.specs.Prelude.{◌≡◌, ◌∷◌, [], ℕ, zero, suc, List, Option, Some, ⊤}
+use Rattle.std.specs.Prelude.{◌≡◌, ◌∷◌, [], ℕ, zero, suc, Bool, true, false, List, Option, Some, ⊤}
 use Rattle.tor_arena.specs.Limits.{max_paths}
 use Rattle.tor_io.specs.Contents.{Files}
 use Rattle.dump_read.specs.declared.taking.Taken.{Taken}
@@ -7,6 +7,7 @@ use Rattle.result_text.specs.declared.file.ResultFile.{ResultFile}
 use Rattle.result_rules.specs.declared.verdict.Verdict.{Verdict}
 use Rattle.result_rules.specs.declared.verdict.Verdict.TheVariants.{Yes, No}
 use Rattle.result_rules.specs.Against.{JudgesAgainst}
+use Rattle.any_order.specs.AnyOrder.{JudgesInAnyOrder}
 use Rattle.tor_words.specs.declared.check_settings.CheckSettings.{CheckSettings}
 use Rattle.tor_words.specs.CheckGiven.{check_settings_given}
 use Rattle.run_base.specs.declared.notes.FirstFile.TheVariants.{Result}
@@ -28,13 +29,17 @@ abbrev pub verdict_in : Judged → Verdict
 verdict_in (ByFile line rule) = No line rule
 verdict_in (ByDumps verdict) = verdict
 
+-- the verdict on the agreement of a result with what dumps gave: as they stand, or in any order
+abbrev pub JudgesTaken : (any_order : Bool) → ResultFile → Taken → Verdict → Type 0
+JudgesTaken false file taken verdict = JudgesAgainst file taken.table.rows taken.counts verdict
+JudgesTaken true file taken verdict = JudgesInAnyOrder file taken.table.rows taken.counts verdict
+
 -- yes where no dump is named. Else the dumps, read with the sets of the result, give paths and counts, and the verdict is on the agreement
 -- with these
-abbrev pub JudgesDumps : Option Files → ResultFile → List (List ℕ) → Verdict → Type 0
-JudgesDumps known file [] verdict = verdict ≡ Yes
-JudgesDumps known file (dump ∷ dumps) verdict =
-    (taken : Taken) × DumpsGive known file.sets (dump ∷ dumps) (nothing max_paths) taken
-    × JudgesAgainst file taken.table.rows taken.counts verdict
+abbrev pub JudgesDumps : (any_order : Bool) → Option Files → ResultFile → List (List ℕ) → Verdict → Type 0
+JudgesDumps any_order known file [] verdict = verdict ≡ Yes
+JudgesDumps any_order known file (dump ∷ dumps) verdict =
+    (taken : Taken) × DumpsGive known file.sets (dump ∷ dumps) (nothing max_paths) taken × JudgesTaken any_order file taken verdict
 
 -- the result file, as far as it is known, holds this result, which meets the rules 0 to 10
 abbrev pub Holds : CheckSettings → Option Files → ResultFile → Type 0
@@ -45,7 +50,7 @@ abbrev pub GivesVerdict : CheckSettings → Option Files → Judged → Type 0
 GivesVerdict settings known (ByFile line rule) =
     (bytes : List ℕ) × HasOctets known settings.result max_result bytes × BreaksRule bytes (No line rule)
 GivesVerdict settings known (ByDumps verdict) =
-    (file : ResultFile) × Holds settings known file × JudgesDumps known file settings.dumps verdict
+    (file : ResultFile) × Holds settings known file × JudgesDumps settings.any_order known file settings.dumps verdict
 
 -- ---- the program
 

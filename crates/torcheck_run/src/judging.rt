@@ -4,12 +4,16 @@ ghost use Rattle.std.specs.Io.KnownBytes.{IsAtEnd};
 ghost use Rattle.tor_arena.specs.Limits.{max_paths};
 ghost use Rattle.dump_read.specs.declared.error.DumpError.TheVariants.{ReadFault as read_failed};
 ghost use Rattle.result_rules.specs.File.{its_givens, most_lines};
+ghost use Rattle.result_rules.specs.Rules.{IsMet};
+ghost use Rattle.result_rules.specs.declared.rule.Rule.TheVariants.{PathsDistinct};
 ghost use Rattle.run_base.specs.Frames.{ReadsShelf};
 ghost use Rattle.run_base.specs.Reach.{IsDumpInReach};
 ghost use Rattle.run_base.specs.Reading.{nothing};
 ghost use Rattle.run_base.specs.Stopping.{Asks, StopsDumps};
-ghost use Rattle.torcheck_run.specs.Checking.{JudgesDumps, checking};
+ghost use Rattle.torcheck_run.specs.Checking.{JudgesDumps, JudgesTaken, checking};
 
+use any_order::check_against_any_order;
+use dump_read::Taken;
 use rel_checker::check_against;
 use result_file::{Ruling, ruling_of_file};
 use result_rules::Verdict;
@@ -29,16 +33,31 @@ pub enum Judged {
     ByDumps(Verdict),
 }
 
+/// The verdict of what dumps gave, as they stand or in any order.
+fn judged_by_taken(any_order: bool, file: &ResultFile, taken: &Taken) -> Verdict
+    requires lines { length (its_givens file.now) + length file.now.paths ≤ most_lines }
+    requires once { IsMet file.now PathsDistinct }
+    ensures { JudgesTaken any_order file.now taken.now result }
+{
+    if any_order {
+        check_against_any_order(file, &taken.table, &taken.counts)
+    } else {
+        check_against(file, &taken.table, &taken.counts)
+    }
+}
+
 /// The verdict of the dumps on a result that meets the rules before: yes where none is named.
 fn judged_by_dumps<H: Shelf>(
     alloc: Global,
     keys: Keys,
     shelf: &mut H,
+    any_order: bool,
     file: &ResultFile,
     dumps: &[Name],
 ) -> Result<Verdict, Stopped>
     requires lines { length (its_givens file.now) + length file.now.paths ≤ most_lines }
-    ensures verdict { IfOk result (JudgesDumps (H.files shelf.old) file.now dumps.now) }
+    requires once { IsMet file.now PathsDistinct }
+    ensures verdict { IfOk result (JudgesDumps any_order (H.files shelf.old) file.now dumps.now) }
     ensures stopped { IfErr result (λ e.
         StopsDumps (H.files shelf.old) (H.steady shelf.old) file.now.sets dumps.now (nothing max_paths) e.dump e.error) }
     ensures read_out { OnOk result (IsAtEnd (H.left shelf.old) → IsAtEnd (H.left shelf.new)) }
@@ -53,7 +72,7 @@ fn judged_by_dumps<H: Shelf>(
     let start = nothing_taken(alloc, keys, MAX_PATHS);
     match read_onto(alloc, shelf, dumps, file.sets, start) {
         Ok(taken) => {
-            let verdict = check_against(file, &taken.table, &taken.counts);
+            let verdict = judged_by_taken(any_order, file, &taken);
             drop(taken);
             Ok(verdict)
         }
@@ -73,7 +92,14 @@ pub(crate) fn judged_of<H: Shelf>(
     match ruling_of_file(alloc, keys, shelf, settings.result.as_text()) {
         Ok(Ruling::Broken { line, rule }) => Ok(Judged::ByFile { line, rule }),
         Ok(Ruling::Met(file)) => {
-            let judged = judged_by_dumps(alloc, keys, shelf, &file, settings.dumps.as_slice());
+            let judged = judged_by_dumps(
+                alloc,
+                keys,
+                shelf,
+                settings.any_order,
+                &file,
+                settings.dumps.as_slice(),
+            );
             drop(file);
             match judged {
                 Ok(verdict) => Ok(Judged::ByDumps(verdict)),

@@ -1,4 +1,5 @@
--- What `torgrade` is to its run: a file of known relationships and dumps come to these and to what the dumps give, and a grading is written.
+-- What `torgrade` is to its run: a file of known relationships and dumps come to these and to what the dumps give, and a grading is
+-- written.
 use Rattle.std.specs.Prelude.{◌≡◌, [], ℕ, zero, suc, List, Option, Some, Ok, Err, ⊤}
 use Rattle.tor_arena.specs.Limits.{max_paths}
 use Rattle.tor_io.specs.Contents.{Files}

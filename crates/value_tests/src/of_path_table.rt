@@ -80,8 +80,8 @@ fn paths_are_added_with_their_times_and_looked_up(rt: HostRuntime) {
     assert!(rt; is_found && has_its_keys(rt.alloc()));
 }
 
-// With the keys of a source which gives the octet 1 the first two paths have the hash 2^32 - 1, the next have 0, 1 and 0. So the keys of all
-// but the first are behind their hashes, and the second path's, too, is behind the greatest number. They were found by trying paths.
+// With the keys of a source which gives the octet 1 the first two paths have the hash 2^32 - 1, the next have 0, 1 and 0. So the keys of
+// all but the first are behind their hashes, and the second path's, too, is behind the greatest number. They were found by trying paths.
 static ALIKE: [&'static [u32]; 5] = [
     &[162, 614, 713],
     &[1000, 1120, 1069],

@@ -1,6 +1,7 @@
 //! What open lines serve for.
 
-ghost use Rattle.std.specs.Prelude.{◌≡◌, ◌<◌, ◌≤◌, ◌↔◌, ℕ, ◌++◌, ◌∷◌, [], List as Items, length, replicate, All, Any, IsTrue, MatchOption, OnOk, IfOk};
+ghost use Rattle.std.specs.Prelude.{◌≡◌, ◌<◌, ◌≤◌, ◌↔◌, ℕ, ◌++◌, ◌∷◌, [], List as Items, length, replicate};
+ghost use Rattle.std.specs.Prelude.{All, Any, IsTrue, MatchOption, OnOk, IfOk};
 ghost use Rattle.tor_arena.specs.Limits.{most_places};
 ghost use Rattle.result_rules.specs.File.{its_claims, its_probes};
 ghost use Rattle.line_rules.specs.Searching.{IsRoundClosed};

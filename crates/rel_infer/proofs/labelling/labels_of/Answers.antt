@@ -1,4 +1,4 @@
-use Rattle.std.proofs.Common.{◌≡◌, ◌∙◌, ◌↔◌, ◌<◌, List, All, Contains, length, map, refl, sym, ap, subst}
+use Rattle.std.proofs.Common.{◌∙◌, ◌↔◌, ◌<◌, List, All, Contains, length, map, refl, sym, ap, subst}
 use Rattle.tor_arena.specs.Distinct.{AllDistinct}
 use Rattle.relationships.specs.declared.label.End.{End}
 use Rattle.relationships.specs.Relationship.{ValleyFree, Serves}

@@ -6,14 +6,13 @@ use Rattle.rel_infer.proofs.result.result_of.Goals as goal
 
 pub returns-clause-result : goal.returns-clause-result
 returns-clause-result c =
-    IfOk-weaker c.result_with.result _ _ (λ (file : ResultFile) r. result_alone c.args.sets c.args.ratio c.args.table.rows c.args.asides file r) c.result_with.ensures.result
+    IfOk-weaker c.result_with.result _ _ (λ (file : ResultFile) r. result_alone c.args.sets c.args.ratio c.args.paths c.args.asides file r) c.result_with.ensures.result
 
 pub returns-clause-accepted : goal.returns-clause-accepted
 returns-clause-accepted c =
-    let facts = c.facts.ensures in
     IfOk-weaker c.result_with.result _ _ (λ (file : ResultFile) r.
-    accepted_alone c.args.sets c.args.ratio c.args.table.rows c.args.asides file c.requires
-    (record { clean = facts.clean; seen = facts.seen; once = facts.once; few = facts.few; numbers = facts.numbers }) r)
+    accepted_alone c.args.sets c.args.ratio c.args.paths c.args.asides file c.requires
+    c.facts.ensures.rows r)
     c.result_with.ensures.result
 
 pub returns-clause-either_way : goal.returns-clause-either_way

@@ -10,7 +10,7 @@ result_by-requires-clause-inferred c =
     c.in_ok-inferred.ensures.inferred)
 
 pub returns-clause-result : goal.returns-clause-result
-returns-clause-result c = c.result_by.ensures.result c.args.table.rows (c.in_ok-inferred.ensures.paths ∙ c.into_rows-rows.ensures.paths) c.into_rows-rows.ensures.times
+returns-clause-result c = c.result_by.ensures.result c.args.paths (c.in_ok-inferred.ensures.paths ∙ c.into_rows-rows.ensures.paths) c.into_rows-rows.ensures.times
 
 pub returns-clause-either_way : goal.returns-clause-either_way
 returns-clause-either_way c = c.result_by.ensures.either_way

@@ -25,7 +25,7 @@ pub returns-clause-result : goal.returns-clause-result
 returns-clause-result c =
     let r = c.in_ok-resumed.resumed in
     let is = c.in_ok-resumed.ensures.inferred in
-    let rows = c.args.table.rows in
+    let rows = c.args.paths in
     subst (λ (sets : Sets). IsResultWith c.args.earlier.givens sets c.args.ratio rows c.args.asides c.result_by.result) is.sets
     (subst (λ (known : Option (List Given)). IsResultWith known r.sets c.args.ratio rows c.args.asides c.result_by.result) is.givens
     (c.result_by.ensures.result rows (c.in_ok-resumed.ensures.paths ∙ c.into_rows-rows.ensures.paths) c.into_rows-rows.ensures.times))
@@ -35,7 +35,7 @@ returns-clause-continues c = λ old left begins.
     let fates = c.in_ok-resumed.resumed.inferred.fates in
     let many : length c.args.earlier.fates ≡ length old.paths = ap length left.fates ∙ length-map old.paths (λ (p : PathLine). p.fate) in
     let same = ap (λ n. take n fates) (sym many) ∙ c.in_ok-resumed.ensures.inferred.same ∙ left.fates in
-    continued old c.result_by.result c.args.table.rows fates begins (c.result_by.ensures.paths ∙ c.in_ok-resumed.ensures.paths ∙ c.into_rows-rows.ensures.paths) c.result_by.ensures.fates same
+    continued old c.result_by.result c.args.paths fates begins (c.result_by.ensures.paths ∙ c.in_ok-resumed.ensures.paths ∙ c.into_rows-rows.ensures.paths) c.result_by.ensures.fates same
 
 pub returns-clause-either_way : goal.returns-clause-either_way
 returns-clause-either_way c =

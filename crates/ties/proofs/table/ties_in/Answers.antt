@@ -1,4 +1,4 @@
-use Rattle.std.proofs.Common.{◌≡◌, ◌<◌, ◌∙◌, length, sym, ap, subst, All}
+use Rattle.std.proofs.Common.{◌<◌, ◌∙◌, length, sym, ap, subst, All}
 use Rattle.std.specs.Prelude.{IfOk}
 use Rattle.relationships.specs.Graph.{edges, orientation}
 use Rattle.relationships.specs.Selection.{IsServable}

@@ -1,4 +1,4 @@
-use Rattle.std.proofs.Common.{◌/◌, ◌<◌, arith}
+use Rattle.std.proofs.Common.{arith}
 use Rattle.relationships.specs.Graph.{edges}
 use Rattle.tor_clauses.specs.Formulas.{numbered}
 use Rattle.tor_clauses.proofs.Leadings.{begun}

@@ -1,10 +1,10 @@
-use Rattle.std.proofs.Common.{◌*◌, ◌<◌, ◌≤◌, ◌∙◌, inl, inr, Some, length, sym, ap, subst, arith, Contains}
+use Rattle.std.proofs.Common.{◌<◌, ◌∙◌, inl, inr, Some, length, sym, ap, subst, arith, Contains}
 use Rattle.std.proofs.lemmas.Bool.{false≢true}
 use Rattle.std.proofs.lemmas.Option.{some_pair_parts, slice_get_within}
 use Rattle.tor_arena.proofs.Gets.{has-from_Contains, Contains-from_has}
 use Rattle.tor_digraph.specs.Walks.{IsArc}
 use Rattle.tor_digraph.specs.Trails.{StandsAt, Visits, IsHeadFrom}
-use Rattle.tor_digraph.proofs.Trails.{visits_stays, visits_there, trail_visits}
+use Rattle.tor_digraph.proofs.Trails.{visits_there, trail_visits}
 use Rattle.tor_clauses.specs.Literals.{lit_of, opposite_node, Holds}
 use Rattle.tor_clauses.proofs.Sides.{opposite_below}
 use Rattle.tor_mend.specs.Searches.{IsVisited}

@@ -8,6 +8,6 @@ abbrev pub invariant-loop-place : goal.invariant-loop-place
 invariant-loop-place g l =
     let sink = g.O.Sink in
     record {
-      passed : PassesOn (sink.held l.fn.out) (sink.held l.out) l.buffer (l.fn.buffer ++ listing (take l.place l.table.rows));
+      passed : PassesOn (sink.held l.fn.out) (sink.held l.out) l.buffer (l.fn.buffer ++ listing (take l.place l.paths));
       quiet : sink.faults l.out ≡ sink.faults l.fn.out;
     }

@@ -6,12 +6,12 @@ pub returns-in-Ok-job_in-clause-ok : goal.returns-in-Ok-job_in-clause-ok
 returns-in-Ok-job_in-clause-ok c =
     let by = c.in-Ok.choices in
     let are = c.in-Ok.ensures in
-    settings-are (rows_of (found_of c.args.matches.now)) by.task by.sets by.ratio by.max_paths c.in-Ok-job_in.job
-    (record { wanted = are.task; cut = are.sets; times = are.ratio; limit = are.most }) c.in-Ok-job_in.ensures.ok
+    settings-are (rows_of (found_of c.args.matches.now)) by.task by.sets by.order by.ratio by.max_paths c.in-Ok-job_in.job
+    (record { wanted = are.task; cut = are.sets; taken = are.order; times = are.ratio; limit = are.most }) c.in-Ok-job_in.ensures.ok
 
 pub returns-in-Err-job_in-clause-err : goal.returns-in-Err-job_in-clause-err
 returns-in-Err-job_in-clause-err c usage =
     let by = c.in-Ok.choices in
     let are = c.in-Ok.ensures in
-    no-job (rows_of (found_of c.args.matches.now)) by.task by.sets by.ratio by.max_paths
-    (record { wanted = are.task; cut = are.sets; times = are.ratio; limit = are.most }) (c.in-Err-job_in.ensures.err usage)
+    no-job (rows_of (found_of c.args.matches.now)) by.task by.sets by.order by.ratio by.max_paths
+    (record { wanted = are.task; cut = are.sets; taken = are.order; times = are.ratio; limit = are.most }) (c.in-Err-job_in.ensures.err usage)

@@ -1,4 +1,4 @@
-use Rattle.std.proofs.Common.{◌∙◌, ◌<◌, Contains, IfOk, length, sym, ap, subst}
+use Rattle.std.proofs.Common.{◌<◌, Contains, IfOk, length, sym, subst}
 use Rattle.std.proofs.lemmas.Option.{slice_get_within}
 use Rattle.tor_clauses.specs.Literals.{opposite_node}
 use Rattle.tor_clauses.specs.Rounds.{IsClash}

@@ -179,10 +179,10 @@ numbers_of (row ∷ rows) =
 -- ---- what is taken in
 
 -- as a table has it, with a limit that a table may have
-record IsTable (taken : Taken) : Type 0 where
-  rows : AreTableRows taken.table.rows
-  within : length (row_paths taken.table.rows) ≤ taken.table.limit
-  most : taken.table.limit ≤ limits.max_paths
+pub record IsTable (taken : Taken) : Type 0 where
+  pub rows : AreTableRows taken.table.rows
+  pub within : length (row_paths taken.table.rows) ≤ taken.table.limit
+  pub most : taken.table.limit ≤ limits.max_paths
 
 -- from the paths of its rows
 by_paths : (taken : Taken) (paths : List (List ℕ)) → row_paths taken.table.rows ≡ paths → list_all is_cleaned paths ≡ true → All (λ n. 1 ≤ n) (times_of taken.table.rows)
@@ -284,7 +284,7 @@ one_file sets dump old new (Some octets) is e =
     let counted : IsTable (with_file octets took.all) = record { rows = all.rows; within = all.within; most = all.most } in
     subst IsTable took.same counted
 
-all_files : (sets : Sets) (dump : ℕ) (old new : Taken) (names : List (List ℕ)) (files : Files) → IsTable old → seen_from sets dump old names files ≡ Ok new → IsTable new
+pub all_files : (sets : Sets) (dump : ℕ) (old new : Taken) (names : List (List ℕ)) (files : Files) → IsTable old → seen_from sets dump old names files ≡ Ok new → IsTable new
 all_files sets dump old new [] files is e = subst IsTable (same old new e) is
 all_files sets dump old new (name ∷ names) files is e =
     by (of_file sets dump old (files name)) refl e (λ further. all_files sets (dump + 1) further new names files)
