@@ -7,7 +7,7 @@
 #   bench/memory.sh BIN SAMPLES
 # BIN is the folder of the programs.
 set -uo pipefail
-tor=$1/tor torcheck=$1/torcheck torgrade=$1/torgrade torwhy=$1/torwhy torview=$1/torview samples=$2
+tor=$1/tor torcheck=$1/torcheck torgrade=$1/torgrade torrank=$1/torrank torwhy=$1/torwhy torview=$1/torview samples=$2
 work=$(mktemp -d)
 trap 'rm -rf "$work"' EXIT
 failed=0
@@ -147,6 +147,7 @@ dump=$samples/three-paths.mrt
 head -c 60 "$samples/two-paths.mrt" > "$work/cut.mrt"
 printf '20|10|-1\n20|30|0\n' > "$work/rel"
 printf '20|10|-1\n10|20\n' > "$work/bad"
+printf '20|10|-1\n10|30|-1\n30|20|-1\n30|40|0\n' > "$work/circle"
 printf '# all but the first bind\n7|8|-1\n10|20|-1\n30|40|-1\n' > "$work/given"
 sed '16s/forced/open/' "$samples/three-paths.result.txt" > "$work/changed.txt"
 "$tor" --given "$work/given" "$dump" > "$work/under-givens.txt" 2> "$work/note"
@@ -177,6 +178,10 @@ refuse "a check of a changed result" 1 "$torcheck" "$work/changed.txt" "$dump"
 refuse "a grading" 1 "$torgrade" "$work/rel" "$dump"
 refuse "a grading and a cone" 1 "$torgrade" --cone 20 "$work/rel" "$dump"
 refuse "a bad line of relationships" 1 "$torgrade" "$work/bad" "$dump"
+refuse "ranks" 1 "$torrank" "$work/circle"
+refuse "cones" 1 "$torrank" --cones "$work/circle"
+refuse "cycles" 1 "$torrank" --cycles "$work/circle"
+refuse "ranks of a bad line" 1 "$torrank" "$work/bad"
 refuse "a telling of a forced edge" 1 "$torwhy" "$samples/three-paths.result.txt" 10 20
 refuse "a telling of an open edge" 1 "$torwhy" "$samples/three-paths.result.txt" 20 30
 refuse "a telling of a path" 1 "$torwhy" --path 3 "$samples/three-paths.result.txt"

@@ -5,7 +5,7 @@
 #   bench/system.sh BIN SAMPLES
 # BIN is the folder of the programs.
 set -uo pipefail
-tor=$1/tor torcheck=$1/torcheck torgrade=$1/torgrade torwhy=$1/torwhy torview=$1/torview samples=$2
+tor=$1/tor torcheck=$1/torcheck torgrade=$1/torgrade torrank=$1/torrank torwhy=$1/torwhy torview=$1/torview samples=$2
 work=$(mktemp -d)
 trap 'rm -rf "$work"' EXIT
 failed=0
@@ -174,6 +174,21 @@ expect "relationships of 2^28 + 1 octets" $? 6 "limit|rel|0"
 "$torgrade" /dev/zero "$one" > "$work/out" 2> "$work/note"
 expect "endless relationships" $? 6 "limit|rel|0"
 same "endless relationships" "$work/out" ""
+
+for words in "" --cones --cycles; do
+    "$torrank" $words "$work/rel" > /dev/full 2> "$work/note"
+    expect "torrank $words on a full device" $? 5 "write-fault"
+done
+
+"$torrank" /dev/stdin < "$work/rel" > "$work/out" 2> "$work/note"
+expect "a ranking of standard input" $? 0 ""
+same "a ranking of standard input" "$work/out" $'rank|1|10|2|0|0|1\nrank|2|20|1|1|0|0\nranks|2|1|0'
+
+"$torrank" /dev/zero > "$work/out" 2> "$work/note"
+expect "a ranking of endless relationships" $? 6 "limit|rel|0"
+
+"$torrank" "$samples" > "$work/out" 2> "$work/note"
+expect "a ranking of a folder" $? 4 "read-fault|0"
 
 "$tor" --given "$work/rel" "$one" > /dev/full 2> "$work/note"
 expect "a full device for a result under givens" $? 5 "write-fault"

@@ -6,10 +6,10 @@ _tor() {
     case $before in
         --as-sets) mapfile -t COMPREPLY < <(compgen -W 'cut skip' -- "${word#=}") ;;
         --order) mapfile -t COMPREPLY < <(compgen -W 'seen short' -- "${word#=}") ;;
-        --ratio | --max-paths | --sample) compopt +o default ;;
+        --ratio | --max-paths | --sample | --top) compopt +o default ;;
         *)
             case $word in
-                -*) mapfile -t COMPREPLY < <(compgen -W '--list --survey --ties --serial1 --as-sets --ratio --max-paths --sample --given --migrate --resume --order' -- "$word") ;;
+                -*) mapfile -t COMPREPLY < <(compgen -W '--list --survey --ties --ask --serial1 --as-sets --ratio --max-paths --sample --given --migrate --resume --order --top' -- "$word") ;;
             esac ;;
     esac
 }

@@ -1,4 +1,4 @@
-// The five programs in one: it goes by the last part of the name that it is called by. `make quick` builds it, unproved; each program by
+// The six programs in one: it goes by the last part of the name that it is called by. `make quick` builds it, unproved; each program by
 // itself is crates/NAME/src/main.rt.
 #![tactic(auto)]
 
@@ -12,12 +12,14 @@ use tor_run::infer;
 use tor_words::words_of;
 use torcheck_run::check;
 use torgrade_run::grade;
+use torrank_run::rank;
 
 #[derive(Clone, Copy)]
 enum Program {
     Tor,
     Torcheck,
     Torgrade,
+    Torrank,
     Torwhy,
     Torview,
 }
@@ -32,6 +34,7 @@ fn program_of(path: &str) -> Option<Program> {
         "tor" => Some(Program::Tor),
         "torcheck" => Some(Program::Torcheck),
         "torgrade" => Some(Program::Torgrade),
+        "torrank" => Some(Program::Torrank),
         "torwhy" => Some(Program::Torwhy),
         "torview" => Some(Program::Torview),
         _ => None,
@@ -44,7 +47,7 @@ fn main(rt: HostRuntime) -> ExitCode {
         Err(error) => return ExitCode::from(code_of_failure(&error)),
     };
     let Some(program) = named.and_then(|name| program_of(name.as_str())) else {
-        let _ = rt.stderr().write_all(b"this program goes by the name that it is called by: tor, torcheck, torgrade, torwhy or torview\n");
+        let _ = rt.stderr().write_all(b"this program goes by the name that it is called by: tor, torcheck, torgrade, torrank, torwhy or torview\n");
         return ExitCode::from(Status::Usage.code());
     };
     let args = match env::args(&rt) {
@@ -63,6 +66,7 @@ fn main(rt: HostRuntime) -> ExitCode {
         Program::Tor => infer(alloc, keys, &words, &mut shelf, &mut out, &mut err),
         Program::Torcheck => check(alloc, keys, &words, &mut shelf, &mut out, &mut err),
         Program::Torgrade => grade(alloc, keys, &words, &mut shelf, &mut out, &mut err),
+        Program::Torrank => rank(alloc, keys, &words, &mut shelf, &mut out, &mut err),
         Program::Torwhy => why(alloc, keys, &words, &mut shelf, &mut out, &mut err),
         Program::Torview => view(alloc, keys, &words, &mut shelf, &mut out, &mut err),
     };

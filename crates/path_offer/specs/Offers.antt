@@ -26,3 +26,8 @@ pub record IsOffered (graph : List (List ℕ)) (path : ℕ) (old new : Choice) (
   pub walk : IsRefutedIfLost graph old path fate
   pub same : IsServed graph (path ∷ []) old.ends → new.ends ≡ old.ends
   pub changed : ChangesFrom graph path new.formula.net.arcs old.ends new.ends
+
+-- what offering a path and taking it back comes to: it is decided exactly, and a walk refutes where it would be lost
+pub record IsTried (graph : List (List ℕ)) (path : ℕ) (old : Choice) (fate : Fate) : Type 0 where
+  pub exact : IsKeptExactly graph old path fate
+  pub walk : IsRefutedIfLost graph old path fate

@@ -10,7 +10,7 @@ ghost use Rattle.as_graph.specs.Paths.{paths_at};
 ghost use Rattle.tor_clauses.specs.Triples.{AreAmong, triples_on};
 ghost use Rattle.tor_clauses.specs.Formulas.{FitsGraph, IsServed, numbered};
 ghost use Rattle.tor_mend.specs.Refusals.{AreRefused};
-ghost use Rattle.path_offer.specs.Offers.{IsOffered};
+ghost use Rattle.path_offer.specs.Offers.{IsOffered, IsTried};
 ghost use Rattle.path_offer.specs.Choices.{with_offered, ServesKept, CanServeKept};
 
 use crate::repairing::repair;
@@ -211,6 +211,38 @@ impl Selector {
                 self.clauses.undo_to(mark);
                 Err(NoMemory)
             }
+        }
+    }
+
+    /// What would become of a path of the graph, which has to be there: it is offered, and taken back whether it fits or not. It would be
+    /// lost exactly where no orientation serves the kept paths together with it, and the walk refutes as by `offer`. Nothing changes, also
+    /// where memory ran out, which is the only error. The selector's clauses have to fit the graph.
+    pub fn try_offer(
+        &mut self,
+        alloc: Global,
+        graph: &AsGraph,
+        path: PathId,
+    ) -> Result<Fate, NoMemory>
+        requires fits { FitsGraph graph.now self.old.formula }
+        requires there { path < length graph.now }
+        ensures tried { IfOk result (IsTried graph.now path self.old) }
+        ensures same { self.new ≡ self.old }
+    {
+        graph.facts();
+        model_law();
+        refuting_law();
+        self.clauses.facts();
+        let mark = self.clauses.mark();
+        let first_new = self.clauses.first_new(graph, path);
+        self.clauses.add_path(graph, path, first_new)?;
+        let fitted = Fitted::new(graph, &self.clauses);
+        let repaired = repair(alloc, &fitted, mark.triples, &mut self.state);
+        flip_back(&mut self.state.ends, &mut self.state.flips);
+        self.clauses.undo_to(mark);
+        match repaired {
+            Ok(None) => Ok(Fate::Kept),
+            Ok(Some(walk)) => Ok(Fate::Lost(walk)),
+            Err(NoMemory) => Err(NoMemory),
         }
     }
 

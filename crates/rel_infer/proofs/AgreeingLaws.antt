@@ -155,7 +155,7 @@ agreeing_law givens paths = (
   λ kept wants order O. preferred_among (AgreesOnEdges givens paths) (returns paths givens) kept (on_edges givens paths kept) wants order O,
 )
 
-edges_in : (some paths : List (List ℕ)) → ((p : List ℕ) → Contains some p → Contains paths p) → (e : Edge) → Contains (edges some) e → Contains (edges paths) e
+pub edges_in : (some paths : List (List ℕ)) → ((p : List ℕ) → Contains some p → Contains paths p) → (e : Edge) → Contains (edges some) e → Contains (edges paths) e
 edges_in some paths sub e c =
     let n = ((edge_law some).1 e).0 c in ((edge_law paths).1 e).1 (n.0, n.1, (n.2.0, sub n.2.0 n.2.1, n.2.2), n.3)
 

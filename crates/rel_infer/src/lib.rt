@@ -25,5 +25,7 @@ pub use given_laws::{
     given_rules_met_law, no_givens_result_law,
 };
 pub use laws::{one_inference_law, one_result_law, self_acceptance_law};
+pub use relinking::link_by;
 pub use result::{ResultHead, result_of, result_with};
-pub use resuming::result_resumed;
+pub use resuming::{result_resumed, selector_of};
+pub use taking_up::{KeptFirst, Started, started_in};

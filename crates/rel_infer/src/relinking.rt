@@ -22,8 +22,8 @@ fn number_at(numbers: &[u32], place: usize) -> u32
     }
 }
 
-/// A link, of which one into a row behind so many paths names the given of the row's number.
-fn link_by(link: Link, paths: u32, numbers: &[u32]) -> Link
+/// A link, of which one into a row behind so many paths names the given of the row's number. It takes no memory.
+pub fn link_by(link: Link, paths: u32, numbers: &[u32]) -> Link
     ensures { result ≡ given_link paths numbers.now link }
 {
     if paths < link.path {

@@ -122,8 +122,8 @@ fn inferred_past(
     with_paths(alloc, graph, count, inferred, paths)
 }
 
-// A selector that keeps these of the paths of a graph, none of which is offered.
-fn selector_of(
+/// A selector that keeps these of the paths of a graph, none of which is offered. The only error is that memory ran out.
+pub fn selector_of(
     alloc: Global,
     keys: Keys,
     graph: &AsGraph,

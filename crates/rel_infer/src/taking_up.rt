@@ -25,7 +25,7 @@ use tor_arena::{Keys, List, NoMemory, PathId, Rows};
 
 /// What is kept before a path is offered: returns and kept paths of an earlier result.
 #[derive(Drop)]
-pub(crate) struct KeptFirst {
+pub struct KeptFirst {
     /// Their places in the graph.
     pub places: List<PathId>,
     /// An orientation that serves them.
@@ -34,7 +34,7 @@ pub(crate) struct KeptFirst {
 
 /// The graph of all paths and, behind these, of returns, and what is kept of it first.
 #[derive(Drop)]
-pub(crate) struct Started {
+pub struct Started {
     /// The graph.
     pub graph: AsGraph,
     /// What is kept first.
@@ -85,7 +85,7 @@ fn kept_over(
 
 /// The graph of all paths and of returns, and what is kept of it first. The numbers of the givens of these returns are added, where there
 /// are none yet.
-pub(crate) fn started_in(
+pub fn started_in(
     alloc: Global,
     keys: Keys,
     paths: &Rows<PathId, u32>,

@@ -1,4 +1,5 @@
 pub mod AcceptedLemmas
+pub mod AskedLemmas
 pub mod EvidenceLemmas
 pub mod GrowingLemmas
 pub mod KeptLemmas

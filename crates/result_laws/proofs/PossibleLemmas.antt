@@ -111,7 +111,7 @@ forced_if_never paths low high end never O O' serves serves' =
     other_end end (O low high) (never O serves) ∙ sym (other_end end (O' low high) (never O' serves'))
 
 -- an edge that is not forced may have either end as its provider
-either_end : (paths : List (List ℕ)) (low high : ℕ) → All NeighboursDiffer paths → low < high → (IsForced paths low high → ⊥) → (end : End) →
+pub either_end : (paths : List (List ℕ)) (low high : ℕ) → All NeighboursDiffer paths → low < high → (IsForced paths low high → ⊥) → (end : End) →
     (O : Orientation) × Serves O paths × (O low high ≡ end)
 either_end paths low high differ lt not_forced end = elim (end_or_never paths low high differ lt end) [
   | inl w ↦ w
@@ -140,18 +140,18 @@ open_edge_law file accepts line there is_open end =
 -- ---- givens of open edges
 
 -- an orientation that has the given's provider says what the given says
-given_held : (O : Orientation) (g : Given) → g.over ≢ g.under → (low high : ℕ) → edge_of g.over g.under ≡ (low, high) → O low high ≡ end_by g.over g.under →
+pub given_held : (O : Orientation) (g : Given) → g.over ≢ g.under → (low high : ℕ) → edge_of g.over g.under ≡ (low, high) → O low high ≡ end_by g.over g.under →
     LabelsSay (labels_of O) g
 given_held O g two low high same is =
     (ends_hold O (g ∷ []) (two, tt) (subst (λ (e : Edge). O e.0 e.1 ≡ end_by g.over g.under) (sym same) is, tt)).0
 
-edge_apart : (a b low high : ℕ) → low < high → edge_of a b ≡ (low, high) → a ≢ b
+pub edge_apart : (a b low high : ℕ) → low < high → edge_of a b ≡ (low, high) → a ≢ b
 edge_apart a b low high lt same e =
     let low_is : min a b ≡ low = ap (λ (e : Edge). e.0) same in
     let high_is : max a b ≡ high = ap (λ (e : Edge). e.1) same in
     omega (arith, lt, low_is, high_is, e)
 
-returns_with : (paths : List (List ℕ)) (givens : List Given) (g : Given) → returns paths (givens ++ g ∷ []) ≡ returns paths givens ++ returns paths (g ∷ [])
+pub returns_with : (paths : List (List ℕ)) (givens : List Given) (g : Given) → returns paths (givens ++ g ∷ []) ≡ returns paths givens ++ returns paths (g ∷ [])
 returns_with paths givens g =
     ap (map return_of) (filter-append (names_edge paths) givens (g ∷ [])) ∙
     map-append return_of (filter (names_edge paths) givens) (filter (names_edge paths) (g ∷ []))

@@ -1,3 +1,4 @@
+pub mod Asked
 pub mod Existing
 pub mod Growing
 pub mod Orders

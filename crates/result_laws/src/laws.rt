@@ -1,5 +1,6 @@
 //! Laws over the definitions in `specs/`, each as the contract of a function that does nothing.
 
+ghost use Rattle.result_laws.specs.Asked.{GivenAskLaw};
 ghost use Rattle.result_laws.specs.Existing.{SomeResultLaw, SomeResumedLaw};
 ghost use Rattle.result_laws.specs.Growing.{ForcedStaysLaw};
 ghost use Rattle.result_laws.specs.Orders.{AnyOrderLaw};
@@ -19,6 +20,12 @@ pub fn open_edge_law()
 /// One given more, for an open edge, costs no path: with the edge given either way, exactly the same paths are kept.
 pub fn given_open_law()
     ensures { GivenOpenLaw }
+{}
+
+/// With one given more, of an edge that `tor --ask` has a line of, the same paths are kept, and exactly those edges are forced that weren't
+/// which the given's provider forces: as many as the line says.
+pub fn given_ask_law()
+    ensures { GivenAskLaw }
 {}
 
 /// Whatever paths are added after those of a result, under the same givens: what is kept stays kept, what is lost stays lost, and an

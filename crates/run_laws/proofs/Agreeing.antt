@@ -6,7 +6,7 @@ use Rattle.path_order.specs.declared.choice.Order.{Order}
 use Rattle.path_order.specs.Orders.{ordered}
 use Rattle.tor_arena.specs.Limits.{max_paths}
 use Rattle.tor_io.specs.Contents.{Files}
-use Rattle.relationships.specs.declared.given.Given.{Given}
+use Rattle.as_rel.specs.declared.givens.KnownLines.{KnownLines}
 use Rattle.dump_read.specs.declared.taking.Taken.{Taken}
 use Rattle.result_text.specs.declared.file.ResultFile.{ResultFile}
 use Rattle.result_rules.specs.declared.verdict.Verdict.TheVariants.{Yes}
@@ -79,7 +79,7 @@ module _ (law : OneValue) (any : Bool) (files : Files) (file : ResultFile) (text
       agreed_by dumps (by_dumps any file dumps files taken gives agrees) (is_ok (seen_for file dumps files) taken gives)
 
 -- under the limit of a check dumps give what they gave
-pub sees : (settings : Settings) (files : Files) (known : Option (List Given)) (taken : Taken) (file : ResultFile) → settings.max_paths ≤ max_paths →
+pub sees : (settings : Settings) (files : Files) (known : Option KnownLines) (taken : Taken) (file : ResultFile) → settings.max_paths ≤ max_paths →
     seen settings files ≡ Ok taken → Faithful settings known taken file → seen_for file (dumps_in settings) files ≡ Ok (widened max_paths taken)
 sees settings files known taken file few gives faithful =
     let wide = all_files settings.max_paths max_paths settings.sets 1 (nothing settings.max_paths) taken (dumps_in settings) files

@@ -18,7 +18,7 @@ use Rattle.order_laws.specs.RouteOrder.{GiveSame, IsTakenInAnyOrder}
 use Rattle.order_laws.proofs.RouteOrders.{moved_law}
 use Rattle.any_order.specs.AnyOrder.{JudgesInAnyOrder}
 use Rattle.any_order.proofs.OneVerdicts.{ordered_law}
-use Rattle.relationships.specs.declared.given.Given.{Given}
+use Rattle.as_rel.specs.declared.givens.KnownLines.{KnownLines}
 use Rattle.result_text.specs.declared.file.ResultFile.{ResultFile}
 use Rattle.result_rules.specs.Against.{its_rows}
 use Rattle.result_rules.specs.declared.verdict.Verdict.TheVariants.{Yes}
@@ -103,7 +103,7 @@ module _ (law : OneValue) (file : ResultFile) (text : List ℕ) (accepted : IsAc
       (subst (λ (counts : CauseCounts). JudgesInAnyOrder file found.after.table.rows counts Yes) (sym (found.counts ∙ these.counts)) judged)
 
 -- a result that a run makes of dumps is of their octets, in some order
-pub of_its_dumps : (settings : Settings) (files : Files) (known : Option (List Given)) (taken : Taken) (file : ResultFile) (dumps : List (List ℕ)) → seen_for file (dumps_in settings) files ≡ Ok (widened max_paths taken)
+pub of_its_dumps : (settings : Settings) (files : Files) (known : Option KnownLines) (taken : Taken) (file : ResultFile) (dumps : List (List ℕ)) → seen_for file (dumps_in settings) files ≡ Ok (widened max_paths taken)
     → Hold files (dumps_in settings) dumps → Faithful settings known taken file → IsOfDumpsInSomeOrder file dumps
 of_its_dumps settings files known taken file dumps sees hold faithful = (
   widened max_paths taken,

@@ -1,37 +1,38 @@
 -- What a result has decided stays so, whatever dumps are added; and some result is faithful to what dumps gave.
-use Rattle.std.proofs.Common.{◌≡◌, ℕ, ◌+◌, List, [], ◌∷◌, ◌++◌, length, map, take, Result, Ok, Err, refl, sym, ap, subst, ◌∙◌, arith, append-nil}
+use Rattle.std.proofs.Common.{◌≡◌, ℕ, ◌+◌, List, [], Option, Some, None, ◌∷◌, ◌++◌, length, map, take, Result, Ok, Err, refl, sym, ap, subst, ◌∙◌, arith, append-nil, unwrap_or}
 use Rattle.std.proofs.lemmas.List.{length-map, take-append-le, take-map, take_all}
 use Rattle.path_attrs.specs.Fields.{◌>>=◌}
 use Rattle.path_clean.specs.declared.cleaned.Sets.{Sets}
 use Rattle.path_table.specs.Rows.{row_paths}
 use Rattle.tor_arena.specs.Limits.{max_paths}
 use Rattle.relationships.specs.declared.fate.Fate.{Fate}
-use Rattle.relationships.specs.declared.given.Given.{Given}
-use Rattle.relationships.specs.Givens.{NameTwo, NameOnce}
 use Rattle.dump_read.specs.declared.taking.Taken.{Taken}
 use Rattle.dump_read.specs.Seen.{DumpsEnd, of_octets}
 use Rattle.result_text.specs.declared.file.PathLine.{PathLine}
 use Rattle.result_text.specs.declared.file.ResultFile.{ResultFile}
-use Rattle.result_rules.specs.declared.rule.Rule.TheVariants.{HeadSound}
-use Rattle.result_rules.specs.File.{its_paths}
+use Rattle.result_rules.specs.File.{its_givens, its_paths}
+use Rattle.result_rules.specs.Rules.{Accepts}
 use Rattle.result_rules.specs.Against.{row_of}
-use Rattle.result_rules.proofs.GivenLines.{name_two, name_once}
 use Rattle.rel_infer.specs.Resumed.{Continues, decided}
 use Rattle.rel_infer.specs.SelfAcceptance.{SelfAcceptanceLaw}
 use Rattle.rel_infer.proofs.Acceptance.{same_givens}
 use Rattle.result_laws.specs.Existing.{SomeResultLaw}
-use Rattle.result_laws.specs.Growing.{ForcedStaysLaw}
+use Rattle.result_laws.specs.Growing.{ForcedStaysLaw, StaysDecided}
 use Rattle.run_base.specs.Reading.{nothing, seen_of}
 use Rattle.run_base.proofs.Values as values
-use Rattle.tor_words.specs.Given.{BoundsLaw, dumps_in}
+use Rattle.tor_words.specs.Given.{BoundsLaw}
 use Rattle.tor_output.specs.Accepting.{TableLaw}
+use Rattle.tor_output.specs.Knowing.{known_on}
 use Rattle.tor_output.specs.First.{first_in}
 use Rattle.tor_output.proofs.Resumings.{Begins, octets_begin}
 use Rattle.run_laws.specs.Growing.{ResumedStaysLaw, AddedStaysLaw, SomeFaithfulLaw}
-use Rattle.tor_output.specs.Output.{paths_joined, paths_taken}
-use Rattle.tor_output.proofs.JoinedRows.{joined_rows}
-use Rattle.tor_output.proofs.Orderings.{joined_rows_too, taken_rows}
-use Rattle.run_laws.proofs.ResumeLemmas.{is_accepted}
+use Rattle.tor_output.specs.Output.{known_for, known_joined, paths_joined, paths_taken}
+use Rattle.tor_output.proofs.Knowings.{known_sound}
+use Rattle.tor_output.proofs.Orderings.{taken_rows}
+use Rattle.top_givens.specs.TopGivens.{top_givens_behind}
+use Rattle.top_laws.specs.MoreGivens.{with_more_givens}
+use Rattle.top_laws.proofs.StillMet.{top_more_law}
+use Rattle.run_laws.proofs.JoinedResults.{is_accepted, joined_vouched}
 
 -- ---- on top of a result
 
@@ -45,17 +46,30 @@ continues_paths earlier file on =
     take-map (λ (d : List ℕ × Fate). d.0) (length earlier.paths) (map decided file.paths) ∙ ap (map (λ (d : List ℕ × Fate). d.0)) on ∙ decided_paths earlier.paths
 
 pub resumed_stays_law : BoundsLaw → SelfAcceptanceLaw → ForcedStaysLaw → ResumedStaysLaw
-resumed_stays_law bounds accept stays words settings files earlier taken file given comes resumed =
-    let within = bounds words settings given in
-    let rules = (is_accepted (first_in settings) files earlier comes.0).1.rules in
-    let rows = joined_rows_too settings earlier taken (joined_rows earlier settings.max_paths (dumps_in settings) files taken within.most rules comes.1) in
-    let own = sym (same_givens earlier earlier.givens refl) in
-    let vouched = accept earlier.givens earlier.sets settings.ratio (paths_joined settings earlier taken) taken.counts file within.ratio rows
-    (subst (λ (gs : List Given). NameTwo gs) own (name_two earlier (rules HeadSound))) (subst (λ (gs : List Given). NameOnce gs) own (name_once earlier (rules HeadSound))) resumed.0 in
-    stays earlier file rules vouched.accepted (record {
-      paths = continues_paths earlier file resumed.1;
-      givens = sym (same_givens file earlier.givens resumed.0.its_givens) ∙ same_givens earlier earlier.givens refl;
-    })
+resumed_stays_law bounds accept stays words settings files earlier taken file given comes resumed = by settings.top refl
+  where
+    rules : Accepts earlier
+    rules = (is_accepted (first_in settings) files earlier comes.0).1.rules
+
+    accepted : Accepts file
+    accepted = (joined_vouched bounds accept words settings files earlier taken file given comes resumed).accepted
+
+    paths : List (List ℕ)
+    paths = row_paths (paths_joined settings earlier taken)
+
+    known : (t : Option (List ℕ)) → settings.top ≡ t → unwrap_or (known_on t earlier paths) [] ≡ its_givens file
+    known t is = ap (λ (o : Option (List ℕ)). unwrap_or (known_on o earlier paths) []) (sym is) ∙ same_givens file (known_joined settings earlier taken) resumed.0.its_givens
+
+    by : (t : Option (List ℕ)) → settings.top ≡ t → StaysDecided earlier file
+    by None is =
+        stays earlier file rules accepted (record {
+          paths = continues_paths earlier file resumed.1;
+          givens = sym (known None is) ∙ same_givens earlier earlier.givens refl;
+        })
+    by (Some top) is =
+        let decided = stays (with_more_givens earlier (top_givens_behind top (its_givens earlier) (its_paths earlier) paths)) file (top_more_law earlier top paths rules) accepted
+        (record { paths = continues_paths earlier file resumed.1; givens = sym (known (Some top) is) }) in
+        record { kept = decided.kept; forced = decided.forced }
 
 -- ---- of dumps after others
 
@@ -108,4 +122,5 @@ added_stays_law stays dumps more earlier later accepts accepts' before after set
 pub some_faithful_law : TableLaw → SomeResultLaw → SomeFaithfulLaw
 some_faithful_law table some words settings files known taken given comes =
     let (rows, sound) = table words settings files known taken given comes in
-    some known settings.sets settings.ratio (paths_taken settings taken) taken.counts (taken_rows settings taken rows) sound.0 sound.1
+    let names = known_sound settings.top known (row_paths (paths_taken settings taken)) sound in
+    some (known_for settings known taken) settings.sets settings.ratio (paths_taken settings taken) taken.counts (taken_rows settings taken rows) names.0 names.1

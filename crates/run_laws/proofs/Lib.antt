@@ -4,7 +4,9 @@ pub mod AgreeingInAnyOrder
 pub mod EqualLengths
 pub mod GrowingRuns
 pub mod Migrating
+pub mod JoinedResults
 pub mod OrderRuns
 pub mod ResumeLemmas
 pub mod SelfGradings
 pub mod ShortRuns
+pub mod TopRuns

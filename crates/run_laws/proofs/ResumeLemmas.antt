@@ -1,24 +1,20 @@
 -- The result of dumps on top of an earlier one is that of one run over all of them, and a checker accepts it.
-use Rattle.std.proofs.Common.{◌≡◌, ◌≤◌, ℕ, ◌+◌, true, false, List, [], ◌∷◌, ◌++◌, length, map, IsPermutation, Option, Some, Ok, inl, inr, refl, sym, ap, ap₂, subst, ◌∙◌, arith}
+use Rattle.std.proofs.Common.{◌≡◌, ◌≤◌, ℕ, ◌+◌, true, false, List, [], ◌∷◌, ◌++◌, length, map, IsPermutation, Option, Some, None, Ok, inl, inr, refl, sym, ap, ap₂, subst, ◌∙◌, arith}
 use Rattle.std.proofs.lemmas.List.{map-append}
 use Rattle.std.proofs.lemmas.Bool.{cases_order}
 use Rattle.path_clean.specs.declared.cleaned.Sets.{Sets}
 use Rattle.path_clean.specs.Counts.{CauseCounts}
-use Rattle.path_table.specs.Rows.{Counted}
+use Rattle.path_table.specs.Rows.{Counted, row_paths}
 use Rattle.path_order.specs.declared.choice.Order.{Order}
 use Rattle.path_order.specs.declared.choice.Order.TheVariants.{Seen}
 use Rattle.path_order.specs.Orders.{ordered, ordered_behind}
 use Rattle.tor_arena.specs.Limits.{max_paths}
 use Rattle.tor_io.specs.Contents.{Files}
 use Rattle.relationships.specs.declared.given.Given.{Given}
-use Rattle.relationships.specs.Givens.{NameTwo, NameOnce}
 use Rattle.dump_read.specs.declared.taking.Taken.{Taken}
 use Rattle.result_text.specs.declared.file.ResultFile.{ResultFile}
-use Rattle.result_rules.specs.declared.rule.Rule.TheVariants.{HeadSound}
-use Rattle.result_rules.proofs.GivenLines.{name_two, name_once}
 use Rattle.rel_infer.specs.GivenResults.{IsResultWith}
 use Rattle.rel_infer.specs.SelfAcceptance.{SelfAcceptanceLaw}
-use Rattle.rel_infer.proofs.Acceptance.{same_givens}
 use Rattle.rel_infer.proofs.OneGivenResult.{given_result_law}
 use Rattle.run_base.specs.Reading.{nothing, seen_from, seen_of}
 use Rattle.run_base.proofs.Values as values
@@ -27,8 +23,9 @@ use Rattle.tor_words.specs.Given.{BoundsLaw, dumps_in}
 use Rattle.result_file.specs.Ruled.{IsAccepted}
 use Rattle.torcheck_run.specs.Judging.{seen_for}
 use Rattle.result_file.proofs.OneRuling.{OneValue}
-use Rattle.tor_output.specs.First.{First, Nothing, Givens, Result, Earlier, TakesUp, first_in}
-use Rattle.tor_output.specs.Output.{IsResumed, paths_joined, paths_taken}
+use Rattle.tor_output.specs.First.{first_in}
+use Rattle.tor_output.specs.Knowing.{known_on}
+use Rattle.tor_output.specs.Output.{IsResumed, known_for, known_joined, paths_joined, paths_taken}
 use Rattle.tor_output.specs.Seen.{joined, taken_up}
 use Rattle.tor_output.specs.Resuming.{Hold, IsOfBoth, IsOfDumps, IsOfDumpsInSomeOrder}
 use Rattle.tor_output.proofs.Joining.{behind, by_octets, dumps_of_both, files_beside, held, joined_by, made_of, octets_of, seen_by, wider}
@@ -38,6 +35,7 @@ use Rattle.run_laws.specs.Agreement.{IsAgreedOn}
 use Rattle.run_laws.specs.ResumeLaws.{AreSameButEvidence, IsAsOfOneRun, OfDumpsLaw, ResumeLaw, InPartsLaw, ResumedAcceptanceLaw}
 use Rattle.run_laws.proofs.Agreeing.{agreed_alone, agreed_beside, sees}
 use Rattle.run_laws.proofs.AgreeingInAnyOrder.{agreed_in_any_order, of_its_dumps}
+use Rattle.run_laws.proofs.JoinedResults.{is_accepted, joined_vouched}
 use Rattle.tor_output.proofs.JoinedRows.{joined_rows}
 use Rattle.tor_output.proofs.Orderings.{joined_rows_too}
 use Rattle.tor_output.proofs.SomeOrders.{of_both}
@@ -75,6 +73,9 @@ one_result known' known sets' sets ratio' ratio rows' rows counts' counts file o
 
 taken_seen : (settings : Settings) (taken : Taken) → settings.order ≡ Seen → paths_taken settings taken ≡ taken.table.rows
 taken_seen settings taken order = ap (λ (o : Order). ordered o taken.table.rows) order
+
+no_top : (settings : Settings) (earlier : ResultFile) (taken : Taken) → settings.top ≡ None → known_joined settings earlier taken ≡ earlier.givens
+no_top settings earlier taken none = ap (λ (t : Option (List ℕ)). known_on t earlier (row_paths (paths_joined settings earlier taken))) none
 
 joined_seen : (settings : Settings) (earlier : ResultFile) (taken : Taken) → settings.order ≡ Seen → paths_joined settings earlier taken ≡ taken.table.rows
 joined_seen settings earlier taken order = ap (λ (o : Order). ordered_behind o (length earlier.paths) taken.table.rows) order
@@ -115,8 +116,8 @@ under_any sets limit other dumps files a b gives gives' = elim (cases_order limi
 ]
 
 as_of_one_run : (settings : Settings) (files : Files) (earlier : ResultFile) (taken : Taken) (file : ResultFile) → settings.max_paths ≤ max_paths
-    → joined earlier settings.max_paths (dumps_in settings) files ≡ Ok taken → IsResumed settings earlier taken file → IsAsOfOneRun settings files earlier file
-as_of_one_run settings files earlier taken file few joins_to resumed before dumps order is_of hold whole other_files gave other order' sets ratio all sees faithful =
+    → joined earlier settings.max_paths (dumps_in settings) files ≡ Ok taken → IsResumed settings earlier taken file → IsAsOfOneRun settings files earlier taken file
+as_of_one_run settings files earlier taken file few joins_to resumed before dumps order is_of hold whole other_files gave other order' sets ratio all sees said knows faithful =
     let (first, gives, first_rows, first_counts) = is_of in
     let (after, sees_both, rows, counts) =
     dumps_of_both earlier settings.max_paths before dumps Some first taken few (by_octets earlier.sets 1 (nothing max_paths) before ∙ gives) first_rows first_counts
@@ -125,8 +126,8 @@ as_of_one_run settings files earlier taken file few joins_to resumed before dump
     sym (seen_by earlier.sets 1 (nothing whole.max_paths) (dumps_in whole) (before ++ dumps) other_files Some all)
     ∙ subst (λ (s : Sets). seen_from s 1 (nothing whole.max_paths) (dumps_in whole) other_files ≡ Ok gave) sets sees in
     let same = under_any earlier.sets whole.max_paths max_paths (before ++ dumps) Some gave after sees_all sees_both in
-    one_result earlier.givens earlier.givens whole.sets earlier.sets whole.ratio settings.ratio (paths_taken whole gave) (paths_joined settings earlier taken) gave.counts taken.counts file other
-    refl sets ratio (taken_seen whole gave order' ∙ same.0 ∙ rows ∙ sym (joined_seen settings earlier taken order)) (same.1 ∙ counts) resumed.0 faithful
+    one_result (known_for whole said gave) (known_joined settings earlier taken) whole.sets earlier.sets whole.ratio settings.ratio (paths_taken whole gave) (paths_joined settings earlier taken) gave.counts taken.counts file other
+    knows sets ratio (taken_seen whole gave order' ∙ same.0 ∙ rows ∙ sym (joined_seen settings earlier taken order)) (same.1 ∙ counts) resumed.0 faithful
 
 pub resume_law : BoundsLaw → ResumeLaw
 resume_law bounds words settings files earlier taken file given comes resumed =
@@ -136,7 +137,7 @@ resume_law bounds words settings files earlier taken file given comes resumed =
 -- ---- two runs
 
 pub in_parts_law : InPartsLaw
-in_parts_law first second whole files later other_files earlier between file other some rest all order_first order_second order_whole joins_some resumed joins_rest resumed_again ratio dumps joins_all resumed_all =
+in_parts_law first second whole files later other_files earlier between file other some rest all order_first order_second order_whole first_top second_top whole_top joins_some resumed joins_rest resumed_again ratio dumps joins_all resumed_all =
     let mine = resumed.0 in
     let most = first.max_paths + second.max_paths + whole.max_paths in
     let gives_first = wider earlier first.max_paths most (dumps_in first) files some (omega arith) joins_some in
@@ -158,17 +159,11 @@ in_parts_law first second whole files later other_files earlier between file oth
     on.1 ∙ ap (λ (t : Taken). seen_from earlier.sets on.0 t two Some) same_some ∙ more.1 in
     let same : widened most all ≡ beside more.0 (widened most rest) =
     values.ok_is (seen_from earlier.sets 1 (taken_up earlier most) (one ++ two) Some) (widened most all) (beside more.0 (widened most rest)) gives_all gives_both in
-    one_result earlier.givens between.givens earlier.sets between.sets whole.ratio second.ratio (paths_joined whole earlier all) (paths_joined second between rest) all.counts rest.counts file other
-    (sym mine.its_givens) (sym mine.its_sets) ratio
+    one_result (known_joined whole earlier all) (known_joined second between rest) earlier.sets between.sets whole.ratio second.ratio (paths_joined whole earlier all) (paths_joined second between rest) all.counts rest.counts file other
+    (no_top whole earlier all whole_top ∙ sym (mine.its_givens ∙ no_top first earlier some first_top) ∙ sym (no_top second between rest second_top)) (sym mine.its_sets) ratio
     (joined_seen whole earlier all order_whole ∙ ap (λ (t : Taken). t.table.rows) same ∙ sym (joined_seen second between rest order_second)) (ap (λ (t : Taken). t.counts) same) resumed_again.0 resumed_all.0
 
 -- ---- what a checker says
-
-pub is_accepted : (f : First) (files : Files) (file : ResultFile) → TakesUp f files file → (bytes : List ℕ) × IsAccepted file bytes
-is_accepted Nothing files file takes = absurd takes
-is_accepted (Givens name) files file takes = absurd takes
-is_accepted (Result name) files file takes = absurd takes
-is_accepted (Earlier name) files file takes = (takes.0, takes.2)
 
 -- the octets of files are determined
 some_same : (xs ys : List (List ℕ)) → map (λ (o : List ℕ). Some o) xs ≡ map (λ (o : List ℕ). Some o) ys → xs ≡ ys
@@ -185,12 +180,9 @@ some_same (x ∷ xs) (y ∷ ys) e = ap₂ (λ (o : List ℕ) (os : List (List �
 
 pub acceptance_law : BoundsLaw → SelfAcceptanceLaw → OneValue → ResumedAcceptanceLaw
 acceptance_law bounds accept law words settings files earlier taken file text given comes resumed is_text =
-    let within = bounds words settings given in
+    let vouched = joined_vouched bounds accept words settings files earlier taken file given comes resumed in
     let rules = (is_accepted (first_in settings) files earlier comes.0).1.rules in
-    let rows = joined_rows_too settings earlier taken (joined_rows earlier settings.max_paths (dumps_in settings) files taken within.most rules comes.1) in
-    let own = sym (same_givens earlier earlier.givens refl) in
-    let vouched = accept earlier.givens earlier.sets settings.ratio (paths_joined settings earlier taken) taken.counts file within.ratio rows
-    (subst (λ (gs : List Given). NameTwo gs) own (name_two earlier (rules HeadSound))) (subst (λ (gs : List Given). NameOnce gs) own (name_once earlier (rules HeadSound))) resumed.0 in
+    let rows = joined_rows_too settings earlier taken (joined_rows earlier settings.max_paths (dumps_in settings) files taken (bounds words settings given).most rules comes.1) in
     let accepted : IsAccepted file text = record { text = is_text; rules = vouched.accepted } in
     record {
       rows = rows;

@@ -1,13 +1,13 @@
 -- A grading by the relationships that were found for the same paths.
 use Rattle.std.proofs.Common.{◌≡◌, ◌↔◌, ℕ, suc, ◌+◌, ◌≤◌, Bool, false, cond, List, [], ◌∷◌, ◌++◌, map, Some, Result, Ok, Contains, IsTrue, refl, sym, ap, ap₂, ◌∙◌, subst, arith, if◌then◌else◌}
-use Rattle.std.proofs.Common.{unwrap_or, IsPermutation}
+use Rattle.std.proofs.Common.{IsPermutation}
 use Rattle.std.specs.Prelude.{count_by, slice_get}
 use Rattle.std.proofs.lemmas.Bool.{false_from_ne_true}
 use Rattle.std.proofs.lemmas.List.Sums.{sum_by-cons}
 use Rattle.std.proofs.lemmas.Option.{same_Some}
 use Rattle.std.proofs.lemmas.List.Sorted.{Contains-permutation, IsPermutation-map}
 use Rattle.path_order.proofs.KeptLemmas.{behind_moves, behind_none}
-use Rattle.tor_output.specs.Output.{paths_taken}
+use Rattle.tor_output.specs.Output.{givens_for, paths_taken}
 use Rattle.tor_arena.specs.Limits.{max_paths}
 use Rattle.tor_io.specs.Contents.{Files}
 use Rattle.path_clean.specs.declared.cleaned.Sets.{Sets}
@@ -109,7 +109,7 @@ self_grading bounds words settings files known taken rel given serial cut comes_
       keeps = exact.graded.keeps;
       kept = exact.graded.kept;
       free = subst (λ (ls : List RelLine). map is_free (grades_of ls (paths_taken settings taken)) ≡ exact.graded.keeps) (sym lines_same)
-          (free_flags exact.lines (returns (row_paths (paths_taken settings taken)) (unwrap_or known [])) (paths_taken settings taken) exact.graded.keeps exact.graded.kept
+          (free_flags exact.lines (returns (row_paths (paths_taken settings taken)) (givens_for settings known taken)) (paths_taken settings taken) exact.graded.keeps exact.graded.kept
           exact.graded.free);
       known = subst (λ (ls : List RelLine). (totals_of (grades_of ls taken.table.rows)).unknown ≡ 0) (sym lines_same)
           (none_unknown exact.lines taken.table.rows (λ path number there. exact.graded.known path number (taken_there settings taken path there)));

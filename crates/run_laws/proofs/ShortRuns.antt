@@ -1,7 +1,8 @@
 -- What runs with `--order short` give doesn't depend on the order of the routes.
-use Rattle.std.proofs.Common.{◌≡◌, ◌≢◌, ℕ, ◌+◌, Bool, true, false, List, [], ◌∷◌, All, Result, Ok, Err, refl, sym, ap, subst, ◌∙◌, if◌then◌else◌, ◌==◌, length}
+use Rattle.std.proofs.Common.{◌≡◌, ◌≢◌, ℕ, ◌+◌, Bool, true, false, List, [], ◌∷◌, All, Option, Result, Ok, Err, refl, sym, ap, ap₂, subst, ◌∙◌, if◌then◌else◌, ◌==◌, length}
 use Rattle.std.specs.Prelude.{is_some}
 use Rattle.std.proofs.lemmas.List.Elements.{All-head, All-tail}
+use Rattle.path_table.specs.Rows.{Counted, row_paths}
 use Rattle.path_attrs.specs.Fields.{◌>>=◌}
 use Rattle.tor_io.specs.Contents.{Files}
 use Rattle.path_clean.specs.declared.cleaned.Sets.{Sets}
@@ -24,7 +25,8 @@ use Rattle.order_laws.proofs.RouteOrders.{fit_law, one_order_law}
 use Rattle.run_base.specs.Reading.{nothing, seen_of}
 use Rattle.tor_words.specs.declared.settings.Settings.{Settings}
 use Rattle.tor_words.specs.Given.{dumps_in}
-use Rattle.tor_output.specs.Output.{paths_taken}
+use Rattle.tor_output.specs.Knowing.{known_of}
+use Rattle.tor_output.specs.Output.{known_for, paths_taken}
 use Rattle.tor_output.specs.Resuming.{Hold}
 use Rattle.tor_output.specs.Seen.{seen}
 use Rattle.tor_output.specs.SeenLaw.{IsWhole}
@@ -58,8 +60,8 @@ short_law settings other files later taken taken' alike sees sees' =
       paths = paths;
       counts = sym same.counts;
       results = λ known file file' faithful faithful'.
-          one_result known known other.sets settings.sets other.ratio settings.ratio (paths_taken other taken') (paths_taken settings taken) taken'.counts taken.counts file file'
-          refl alike.sets alike.ratio paths (sym same.counts) faithful faithful';
+          one_result (known_for other known taken') (known_for settings known taken) other.sets settings.sets other.ratio settings.ratio (paths_taken other taken') (paths_taken settings taken) taken'.counts taken.counts file file'
+          (ap₂ (λ (t : Option (List ℕ)) (ps : List Counted). known_of t known (row_paths ps)) alike.top paths) alike.sets alike.ratio paths (sym same.counts) faithful faithful';
     }
 
 -- ---- limits

@@ -5,6 +5,7 @@ use Rattle.path_order.specs.declared.choice.Order.TheVariants.{Seen}
 use Rattle.tor_io.specs.Contents.{Files}
 use Rattle.relationships.specs.declared.given.Given.{Given}
 use Rattle.dump_read.specs.declared.taking.Taken.{Taken}
+use Rattle.as_rel.specs.declared.givens.KnownLines.{KnownLines}
 use Rattle.result_text.specs.declared.file.ResultFile.{ResultFile}
 use Rattle.result_text.specs.Grammar.{IsTextOf}
 use Rattle.result_rules.specs.declared.verdict.Verdict.{Verdict}
@@ -42,7 +43,7 @@ pub record IsAgreedOn (any_order : Bool) (dumps : List (List ℕ)) (files : File
 -- the paths were taken as they were seen
 abbrev pub AgreementLaw : Type 0
 AgreementLaw =
-    (words : List (List ℕ)) (settings : Settings) (files : Files) (known : Option (List Given)) (taken : Taken) (output : Written) →
+    (words : List (List ℕ)) (settings : Settings) (files : Files) (known : Option KnownLines) (taken : Taken) (output : Written) →
     settings_given words ≡ Some settings → settings.order ≡ Seen → made_by settings.job ≡ Some made.Result →
     ComesTo settings files (Reads known taken) → IsOutput settings (Reads known taken) output → (names : List (List ℕ)) (later : Files) →
     map later names ≡ map files (dumps_in settings) → IsAgreedOn false names later output.text
@@ -50,7 +51,7 @@ AgreementLaw =
 -- and in whatever order they were taken, beside these dumps in any order
 abbrev pub AnyOrderAgreementLaw : Type 0
 AnyOrderAgreementLaw =
-    (words : List (List ℕ)) (settings : Settings) (files : Files) (known : Option (List Given)) (taken : Taken) (output : Written) →
+    (words : List (List ℕ)) (settings : Settings) (files : Files) (known : Option KnownLines) (taken : Taken) (output : Written) →
     settings_given words ≡ Some settings → made_by settings.job ≡ Some made.Result → ComesTo settings files (Reads known taken) →
     IsOutput settings (Reads known taken) output → (names : List (List ℕ)) (later : Files) →
     IsPermutation (map files (dumps_in settings)) (map later names) → IsAgreedOn true names later output.text
@@ -58,7 +59,7 @@ AnyOrderAgreementLaw =
 -- all results that are faithful to what is known and to what dumps gave have the same summary
 abbrev pub OneSummaryLaw : Type 0
 OneSummaryLaw =
-    (settings : Settings) (known : Option (List Given)) (taken : Taken) (file file' : ResultFile) → Faithful settings known taken file →
+    (settings : Settings) (known : Option KnownLines) (taken : Taken) (file file' : ResultFile) → Faithful settings known taken file →
     Faithful settings known taken file' → summary file ≡ summary file'
 
 -- a text of version 2 stays as it is. And what a check comes to is the same with the text of a result as with its text of version 2 in its

@@ -2,7 +2,7 @@
 use Rattle.std.specs.Prelude.{◌≡◌, ℕ, List, ◌++◌, Option, Some}
 use Rattle.tor_io.specs.Contents.{Files}
 use Rattle.dump_read.specs.declared.taking.Taken.{Taken}
-use Rattle.relationships.specs.declared.given.Given.{Given}
+use Rattle.as_rel.specs.declared.givens.KnownLines.{KnownLines}
 use Rattle.result_text.specs.declared.file.ResultFile.{ResultFile}
 use Rattle.result_rules.specs.File.{its_givens}
 use Rattle.result_rules.specs.Rules.{Accepts}
@@ -30,6 +30,6 @@ AddedStaysLaw =
 -- there is always a result: some is faithful to what is known and to what dumps or a sample gave
 abbrev pub SomeFaithfulLaw : Type 0
 SomeFaithfulLaw =
-    (words : List (List ℕ)) (settings : Settings) (files : Files) (known : Option (List Given)) (taken : Taken) →
+    (words : List (List ℕ)) (settings : Settings) (files : Files) (known : Option KnownLines) (taken : Taken) →
     settings_given words ≡ Some settings → ComesTo settings files (Reads known taken) →
     (file : ResultFile) × Faithful settings known taken file

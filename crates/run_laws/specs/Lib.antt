@@ -5,3 +5,4 @@ pub mod Growing
 pub mod ResumeLaws
 pub mod SelfGrading
 pub mod ShortLaws
+pub mod TopRuns

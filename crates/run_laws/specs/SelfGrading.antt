@@ -1,5 +1,5 @@
 -- What `torgrade` says of paths by the relationships that `tor` found for the same paths.
-use Rattle.std.specs.Prelude.{◌≡◌, ◌++◌, ℕ, Bool, List, [], Contains, map, Option, Some, unwrap_or}
+use Rattle.std.specs.Prelude.{◌≡◌, ◌++◌, ℕ, Bool, List, Contains, map, Option, Some}
 use Rattle.tor_io.specs.Contents.{Files}
 use Rattle.path_clean.specs.declared.cleaned.Sets.TheVariants.{Cut}
 use Rattle.path_order.specs.declared.choice.Order.{Order}
@@ -7,6 +7,7 @@ use Rattle.path_order.specs.Orders.{ordered}
 use Rattle.path_table.specs.Rows.{Counted, row_paths}
 use Rattle.dump_read.specs.declared.taking.Taken.{Taken}
 use Rattle.relationships.specs.declared.given.Given.{Given}
+use Rattle.as_rel.specs.declared.givens.KnownLines.{KnownLines}
 use Rattle.relationships.specs.Givens.{returns}
 use Rattle.relationships.specs.Selection.{KeepsFrom}
 use Rattle.as_rel.specs.declared.line.RelLine.{RelLine}
@@ -19,7 +20,7 @@ use Rattle.run_base.specs.Programs.{Makes}
 use Rattle.torgrade_run.specs.GradeText.{is_free, grades_of, grades_text, totals_of}
 use Rattle.torgrade_run.specs.Grading.{Basis, GivesGrading, IsGrading}
 use Rattle.tor_output.specs.Grading.{GradesExactly}
-use Rattle.tor_output.specs.Output.{made_by, paths_taken}
+use Rattle.tor_output.specs.Output.{givens_for, made_by, paths_taken}
 use Rattle.tor_output.specs.Seen.{ComesTo, Reads}
 
 -- the text begins with the lines of these paths and their totals, and there exactly the kept ones are free, and none is unknown.
@@ -42,12 +43,12 @@ KeepDumps dumps files later = (name : List ℕ) → Contains dumps name → late
 -- exactly the kept paths are free, as a run with `--serial1` that cuts sets has written it
 abbrev pub SelfGradingLaw : Type 0
 SelfGradingLaw =
-    (words : List (List ℕ)) (settings : Settings) (files : Files) (known : Option (List Given)) (taken : Taken) (rel : List ℕ) →
+    (words : List (List ℕ)) (settings : Settings) (files : Files) (known : Option KnownLines) (taken : Taken) (rel : List ℕ) →
     settings_given words ≡ Some settings → made_by settings.job ≡ Some Serial → settings.sets ≡ Cut →
     ComesTo settings files (Reads known taken) →
-    GradesExactly (unwrap_or known []) (row_paths (paths_taken settings taken)) rel →
+    GradesExactly (givens_for settings known taken) (row_paths (paths_taken settings taken)) rel →
     (grade_words : List (List ℕ)) (grading : GradeSettings) (later : Files) (text : List ℕ) →
     grade_settings_given grade_words ≡ Some grading → later grading.rel ≡ Some rel →
     map later grading.dumps ≡ map files (dumps_in settings) → (basis : Basis) (note : List ℕ) →
     GivesGrading grading (Some later) (Makes basis) → IsGrading grading basis text note →
-    IsGradedAsKept (unwrap_or known []) settings.order taken.table.rows text
+    IsGradedAsKept (givens_for settings known taken) settings.order taken.table.rows text

@@ -1,7 +1,7 @@
 -- What runs with `--order short` give doesn't depend on the order of the routes.
 use Rattle.std.specs.Prelude.{◌≡◌, ◌≢◌, ℕ, List, All, Option, Ok, Err}
 use Rattle.tor_io.specs.Contents.{Files}
-use Rattle.relationships.specs.declared.given.Given.{Given}
+use Rattle.as_rel.specs.declared.givens.KnownLines.{KnownLines}
 use Rattle.path_order.specs.declared.choice.Order.TheVariants.{Short}
 use Rattle.dump_read.specs.declared.error.LimitKind.{LimitKind}
 use Rattle.dump_read.specs.declared.error.LimitKind.TheVariants.{Bytes}
@@ -17,13 +17,14 @@ use Rattle.tor_output.specs.Seen.{seen}
 use Rattle.tor_output.specs.SeenLaw.{IsWhole}
 use Rattle.run_laws.specs.ResumeLaws.{AreSameButEvidence}
 
--- two runs, each over its own dumps, take the shortest paths first, with the same sets, ratio and limit, and their dumps give the same
+-- two runs, each over its own dumps, take the shortest paths first, with the same sets, ratio, limit and top, and their dumps give the same
 -- routes, in whatever order these come, and however they are cut into records and dumps
 pub record GiveSameRoutes (settings other : Settings) (files later : Files) : Type 0 where
   pub short : settings.order ≡ Short
   pub short_too : other.order ≡ Short
   pub sets : other.sets ≡ settings.sets
   pub ratio : other.ratio ≡ settings.ratio
+  pub top : other.top ≡ settings.top
   pub limit : other.max_paths ≡ settings.max_paths
   pub dumps : List (List ℕ)
   pub others : List (List ℕ)
@@ -36,7 +37,7 @@ pub record GiveSameRoutes (settings other : Settings) (files later : Files) : Ty
 pub record HaveOneAnswer (settings other : Settings) (taken taken' : Taken) : Type 0 where
   pub paths : paths_taken other taken' ≡ paths_taken settings taken
   pub counts : taken'.counts ≡ taken.counts
-  pub results : (known : Option (List Given)) (file file' : ResultFile) → Faithful settings known taken file →
+  pub results : (known : Option KnownLines) (file file' : ResultFile) → Faithful settings known taken file →
       Faithful other known taken' file' → AreSameButEvidence file file'
 
 abbrev pub ShortLaw : Type 0

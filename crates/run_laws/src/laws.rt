@@ -11,11 +11,13 @@ ghost use Rattle.run_laws.specs.Growing.{ResumedStaysLaw, AddedStaysLaw, SomeFai
 ghost use Rattle.run_laws.specs.ResumeLaws.{OfDumpsLaw, ResumeLaw, InPartsLaw, ResumedAcceptanceLaw};
 ghost use Rattle.run_laws.specs.SelfGrading.{SelfGradingLaw};
 ghost use Rattle.run_laws.specs.ShortLaws.{ShortLaw, ShortLimitLaw};
+ghost use Rattle.run_laws.specs.TopRuns.{TopLaw, TopOnEarlierLaw, OneKnowledgeLaw};
 
 use dump_read::dump_law;
 use rel_infer::self_acceptance_law;
 use result_laws::{any_order_law, forced_stays_law, some_result_law};
 use result_text::one_value;
+use top_laws::{top_result_law, top_resumed_law};
 use tor_words::bounds_law;
 
 /// Words and files give one outcome at most: what is known and what all dumps gave, a result, or the first end of these.
@@ -139,6 +141,21 @@ pub fn any_dump_order_law()
 {
     dump_law();
     any_order_law();
+}
+
+/// What `--top` is for: each edge with exactly one end among the networks that buy from nobody, which no line of the file names, is forced and
+/// has that end as its provider; none of them has another network as its provider, and no path with another between two of them is kept. On
+/// top of an earlier result so it is for what only the further paths have, and for all where that was made with the same networks. Then as
+/// much is known as in one run, unless the file says that a network of the top and another are peers.
+pub fn top_law()
+    ensures of_dumps { TopLaw }
+    ensures on_earlier { TopOnEarlierLaw }
+    ensures one_knowledge { OneKnowledgeLaw }
+{
+    bounds_law();
+    faithful_law();
+    top_result_law();
+    top_resumed_law();
 }
 
 /// What `--order short` is for: where two runs with it have dumps that give the same routes, in whatever order these come and however they are

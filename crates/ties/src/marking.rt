@@ -36,8 +36,8 @@ fn labels_by(alloc: Global, ends: &[End]) -> Result<Labels, NoMemory>
 
 /// The marks of the edges, by an orientation that serves the paths of the clauses. Which edges are forced is the same under all labels
 /// under which these paths are valley-free, and those with its providers are had
-/// without a search.
-pub(crate) fn marks_of(
+/// without a search. The only error is that memory ran out.
+pub fn marks_of(
     alloc: Global,
     fitted: &Fitted<'_>,
     orientation: &Orientation,

@@ -1,13 +1,15 @@
 -- What dumps give is as a table of paths has it, and a result of it is accepted.
 use Rattle.std.proofs.Common.{◌≡◌, ℕ, List, [], ◌∷◌, map, Option, Some, None, refl, sym, ap₂, subst, arith}
 use Rattle.dump_read.specs.Laws.{Fit, cleaned_paths, routes_in_files}
-use Rattle.relationships.specs.declared.given.Given.{Given}
+use Rattle.as_rel.specs.declared.givens.KnownLines.{KnownLines}
 use Rattle.tor_io.specs.Contents.{Files}
 use Rattle.rel_infer.specs.SelfAcceptance.{AreTableRows, SelfAcceptanceLaw}
 use Rattle.tor_words.specs.Given.{BoundsLaw}
 use Rattle.tor_output.specs.Accepting.{FaithfulLaw, TableLaw}
 use Rattle.tor_output.specs.First.{AreSound, First, Nothing, Givens, Result, Earlier, AreGivens, first_in}
-use Rattle.tor_output.specs.Output.{paths_taken}
+use Rattle.path_table.specs.Rows.{row_paths}
+use Rattle.tor_output.specs.Output.{known_for, paths_taken}
+use Rattle.tor_output.proofs.Knowings.{known_sound}
 use Rattle.tor_output.proofs.Known.{says_sound}
 use Rattle.tor_output.proofs.Orderings.{taken_rows}
 use Rattle.tor_output.proofs.ReadableLemmas.{readable}
@@ -27,7 +29,7 @@ same_octets (x ∷ a) (y ∷ b) e =
 pub none_sound : AreSound None
 none_sound = (λ i d lt. absurd (omega (arith, lt)), λ i j d lt within. absurd (omega (arith, within)))
 
-givens_sound : (f : First) (files : Files) (known : Option (List Given)) → AreGivens f files known → AreSound known
+givens_sound : (f : First) (files : Files) (known : Option KnownLines) → AreGivens f files known → AreSound known
 givens_sound Nothing files None is = none_sound
 givens_sound Nothing files (Some givens) is = absurd is
 givens_sound (Givens name) files None is = absurd is
@@ -48,4 +50,6 @@ table_law bounds words settings files known taken given comes =
 
 pub faithful_law : BoundsLaw → SelfAcceptanceLaw → FaithfulLaw
 faithful_law bounds accept words settings known taken file given sound table faithful =
-    accept known settings.sets settings.ratio (paths_taken settings taken) taken.counts file (bounds words settings given).ratio (taken_rows settings taken table) sound.0 sound.1 faithful
+    let names = known_sound settings.top known (row_paths (paths_taken settings taken)) sound in
+    accept (known_for settings known taken) settings.sets settings.ratio (paths_taken settings taken) taken.counts file (bounds words settings given).ratio
+    (taken_rows settings taken table) names.0 names.1 faithful

@@ -2,7 +2,8 @@
 use Rattle.std.proofs.Common.{◌≡◌, ◌⊎◌, inl, inr, ℕ, List, Option, Some, None, Ok, Err, refl, sym, ap, ap₂, subst, ◌∙◌}
 use Rattle.tor_io.specs.Contents.{Files}
 use Rattle.relationships.specs.declared.given.Given.{Given}
-use Rattle.as_rel.specs.Givens.{givens_in}
+use Rattle.as_rel.specs.Givens.{SaysKnown, givens_in, peer_pairs}
+use Rattle.as_rel.specs.declared.givens.KnownLines.{KnownLines}
 use Rattle.as_rel.specs.Serial.{rel_in}
 use Rattle.dump_read.specs.declared.taking.Taken.{Taken}
 use Rattle.dump_read.specs.Seen.{DumpsEnd, Absent, Malformed, Limit}
@@ -22,7 +23,7 @@ use Rattle.tor_output.specs.Sampling.{known_beside, no_files, sample_of}
 use Rattle.result_file.specs.Limits.{max_result}
 use Rattle.result_file.specs.Ruled.{BreaksRule, IsAccepted}
 use Rattle.result_file.proofs.OneRuling.{OneValue, none_broken, one_bad_line, one_broken, same_file}
-use Rattle.tor_output.specs.First.{First, Nothing, Givens, Result, Earlier, FirstEnd, NoFile, TooLong, BadLine, Broken, AreGivens, HoldsResult, TakesUp, EndsAtFirst, SaysGivens, first_in}
+use Rattle.tor_output.specs.First.{First, Nothing, Givens, Result, Earlier, FirstEnd, NoFile, TooLong, BadLine, Broken, AreGivens, HoldsResult, TakesUp, EndsAtFirst, first_in}
 use Rattle.tor_output.specs.Limits.{max_given_octets}
 use Rattle.tor_output.specs.Seen.{Outcome, Reads, Joins, Holds, Stops, Ends, EndsBehindGivens, EndsOnEarlier, ComesTo, OneOutcomeLaw, seen_in, joined}
 
@@ -45,26 +46,28 @@ status_for (Ends (Limit kind dump)) = status.Limit
 same_bytes : (most : ℕ) (files : Files) (name a b : List ℕ) → IsFile most files name a → IsFile most files name b → a ≡ b
 same_bytes most files name a b one other = values.some_is (files name) a b one.there other.there
 
--- octets say one list of givens, or have a bad line
-one_saying : (a b : List ℕ) (g h : List Given) → a ≡ b → SaysGivens a g → SaysGivens b h → g ≡ h
+-- octets say one thing, or have a bad line
+one_saying : (a b : List ℕ) (g h : KnownLines) → a ≡ b → SaysKnown a g → SaysKnown b h → g ≡ h
 one_saying a b g h same one other =
-    sym one.2 ∙ ap givens_in (values.ok_is (rel_in a) one.0 other.0 one.1 (ap rel_in same ∙ other.1)) ∙ other.2
+    let rel = values.ok_is (rel_in a) one.rel other.rel one.said (ap rel_in same ∙ other.said) in
+    ap₂ (λ (gs : List Given) (ps : List (ℕ × ℕ)). record { givens = gs; peers = ps }) (one.givens ∙ ap givens_in rel ∙ sym other.givens)
+    (one.peers ∙ ap peer_pairs rel ∙ sym other.peers)
 
-said_or_bad : {X : Type 0} (a b : List ℕ) (g : List Given) (line : ℕ) → a ≡ b → SaysGivens a g → rel_in b ≡ Err line → X
-said_or_bad a b g line same one bad = values.ok_not_err (rel_in a) one.0 line one.1 (ap rel_in same ∙ bad)
+said_or_bad : {X : Type 0} (a b : List ℕ) (g : KnownLines) (line : ℕ) → a ≡ b → SaysKnown a g → rel_in b ≡ Err line → X
+said_or_bad a b g line same one bad = values.ok_not_err (rel_in a) one.rel line one.said (ap rel_in same ∙ bad)
 
-same_givens : (f : First) (files : Files) (a b : Option (List Given)) → AreGivens f files a → AreGivens f files b → a ≡ b
+same_givens : (f : First) (files : Files) (a b : Option KnownLines) → AreGivens f files a → AreGivens f files b → a ≡ b
 same_givens Nothing files None None one other = refl
 same_givens Nothing files None (Some h) one other = absurd other
 same_givens Nothing files (Some g) b one other = absurd one
 same_givens (Givens name) files None b one other = absurd one
 same_givens (Givens name) files (Some g) None one other = absurd other
 same_givens (Givens name) files (Some g) (Some h) one other =
-    ap (λ (gs : List Given). Some gs) (one_saying one.0 other.0 g h (same_bytes max_given_octets files name one.0 other.0 one.1 other.1) one.2 other.2)
+    ap (λ (k : KnownLines). Some k) (one_saying one.0 other.0 g h (same_bytes max_given_octets files name one.0 other.0 one.1 other.1) one.2 other.2)
 same_givens (Result name) files a b one other = absurd one
 same_givens (Earlier name) files a b one other = absurd one
 
-pub given_or_end : {X : Type 0} (f : First) (files : Files) (a : Option (List Given)) (end : FirstEnd) → AreGivens f files a → EndsAtFirst f files end → X
+pub given_or_end : {X : Type 0} (f : First) (files : Files) (a : Option KnownLines) (end : FirstEnd) → AreGivens f files a → EndsAtFirst f files end → X
 given_or_end Nothing files a NoFile one other = absurd other
 given_or_end Nothing files a TooLong one other = absurd other
 given_or_end Nothing files a (BadLine line) one other = absurd other
@@ -78,13 +81,13 @@ given_or_end (Givens name) files (Some g) (Broken line rule) one other = absurd 
 given_or_end (Result name) files a end one other = absurd one
 given_or_end (Earlier name) files a end one other = absurd one
 
-given_or_result : {X : Type 0} (f : First) (files : Files) (a : Option (List Given)) (file : ResultFile) → AreGivens f files a → HoldsResult f files file → X
+given_or_result : {X : Type 0} (f : First) (files : Files) (a : Option KnownLines) (file : ResultFile) → AreGivens f files a → HoldsResult f files file → X
 given_or_result Nothing files a file one other = absurd other
 given_or_result (Givens name) files a file one other = absurd other
 given_or_result (Result name) files a file one other = absurd one
 given_or_result (Earlier name) files a file one other = absurd one
 
-given_or_taken : {X : Type 0} (f : First) (files : Files) (a : Option (List Given)) (file : ResultFile) → AreGivens f files a → TakesUp f files file → X
+given_or_taken : {X : Type 0} (f : First) (files : Files) (a : Option KnownLines) (file : ResultFile) → AreGivens f files a → TakesUp f files file → X
 given_or_taken Nothing files a file one other = absurd other
 given_or_taken (Givens name) files a file one other = absurd other
 given_or_taken (Result name) files a file one other = absurd other
@@ -195,7 +198,7 @@ same_end law (Earlier name) files (Broken line rule) (Broken line' rule') one ot
 
 module _ (law : OneValue) (settings : Settings) (files : Files) where
   -- of dumps behind what is known
-  known_or_ends : {X : Type 0} (a : Option (List Given)) (taken : Taken) (end : DumpsEnd) → AreGivens (first_in settings) files a → seen_in settings files ≡ Ok taken
+  known_or_ends : {X : Type 0} (a : Option KnownLines) (taken : Taken) (end : DumpsEnd) → AreGivens (first_in settings) files a → seen_in settings files ≡ Ok taken
       → EndsBehindGivens settings files end ⊎ EndsOnEarlier settings files end → X
   known_or_ends a taken end are is (inl ends) = values.ok_not_err (seen_in settings files) taken end is ends.2
   known_or_ends a taken end are is (inr ends) = given_or_taken (first_in settings) files a ends.0 are ends.1

@@ -22,6 +22,7 @@ use Rattle.result_rules.specs.File.{claim_on, its_paths, its_walks}
 use Rattle.result_rules.specs.Against.{row_of}
 use Rattle.rel_infer.specs.GivenResults.{IsResultWith}
 use Rattle.rel_infer.specs.SelfAcceptance.{AreTableRows}
+use Rattle.as_rel.specs.declared.givens.KnownLines.{KnownLines}
 use Rattle.as_rel.specs.Serial.{rel_in}
 use Rattle.as_rel.specs.Keeping.{ExactlyKeptAreFree}
 use Rattle.as_rel.specs.Labelled.{ends_of, line_of_edge}
@@ -38,7 +39,7 @@ use Rattle.dump_read.specs.declared.taking.Taken.{Taken}
 use Rattle.tor_output.specs.Grading.{GradesExactly, GradingLaw, ResultEndsLaw, AsksForSerial, GainsGrading}
 use Rattle.std.specs.Io.KnownBytes.{append_known}
 use Rattle.tor_output.specs.First.{HoldsResult, TakesUp, first_of}
-use Rattle.tor_output.specs.Output.{IsMade, IsOutput, IsOutputIn, GainsOutput, made_by, paths_taken}
+use Rattle.tor_output.specs.Output.{IsMade, IsOutput, IsOutputIn, GainsOutput, givens_for, known_for, made_by, paths_taken}
 use Rattle.tor_output.specs.Seen.{Outcome, Reads, Joins, Holds, Stops, Ends, ComesTo}
 use Rattle.tor_output.specs.Written.{Written}
 use Rattle.tor_output.proofs.AcceptingLemmas.{table_law}
@@ -92,11 +93,11 @@ module _ (known : Option (List Given)) (sets : Sets) (ratio : ℕ) (rows : List 
 
 pub grading_law : GradingLaw
 grading_law settings known taken file are faithful =
-    result_graded known settings.sets settings.ratio (paths_taken settings taken) taken.counts file (taken_rows settings taken are) faithful
+    result_graded (known_for settings known taken) settings.sets settings.ratio (paths_taken settings taken) taken.counts file (taken_rows settings taken are) faithful
 
 pub result_ends_law : ResultEndsLaw
 result_ends_law settings known taken file are faithful =
-    result_ends known settings.sets settings.ratio (paths_taken settings taken) taken.counts file (taken_rows settings taken are) faithful
+    result_ends (known_for settings known taken) settings.sets settings.ratio (paths_taken settings taken) taken.counts file (taken_rows settings taken are) faithful
 
 -- ---- what a run that writes lines of serial-1 has written
 
@@ -104,7 +105,7 @@ one_settings : (s t : Settings) → ◌≡◌ {A = Option Settings} (Some s) (So
 one_settings s t e = cc
 
 -- what a job makes of dumps alone is that
-pub is_made : (job : Job) (made : Made) (settings : Settings) (known : Option (List Given)) (taken : Taken) (output : Written) → made_by job ≡ Some made →
+pub is_made : (job : Job) (made : Made) (settings : Settings) (known : Option KnownLines) (taken : Taken) (output : Written) → made_by job ≡ Some made →
     IsOutputIn job settings known taken output → IsMade made settings known taken output
 is_made (Count counted dumps) made settings known taken output is w = absurd cc
 is_made (Infer what given dumps) made settings known taken output is w = let same : what ≡ made = cc in subst (λ (m : Made). IsMade m settings known taken output) same w
@@ -112,10 +113,10 @@ is_made (Sample seed) made settings known taken output is w = absurd cc
 is_made (Migrate name) made settings known taken output is w = absurd w
 is_made (Resume earlier dumps) made settings known taken output is w = absurd w
 
-written_by : (settings : Settings) (known : Option (List Given)) (taken : Taken) (output : Written) → AreTableRows taken.table.rows → IsMade Serial settings known taken output →
-    GradesExactly (unwrap_or known []) (row_paths (paths_taken settings taken)) output.text
+written_by : (settings : Settings) (known : Option KnownLines) (taken : Taken) (output : Written) → AreTableRows taken.table.rows → IsMade Serial settings known taken output →
+    GradesExactly (givens_for settings known taken) (row_paths (paths_taken settings taken)) output.text
 written_by settings known taken output are (file, faithful, serial, bare) =
-    text_graded known settings.sets settings.ratio (paths_taken settings taken) taken.counts file (taken_rows settings taken are) faithful output.text serial.1
+    text_graded (known_for settings known taken) settings.sets settings.ratio (paths_taken settings taken) taken.counts file (taken_rows settings taken are) faithful output.text serial.1
 
 -- a result is taken up where it is resumed, and held where it is migrated, and lines of serial-1 are written of neither
 by_outcome : (words : List (List ℕ)) (files : Files) (old new : Option (List ℕ)) (settings : Settings) (x : Outcome) (output : Written) → settings_given words ≡ Some settings →

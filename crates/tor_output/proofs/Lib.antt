@@ -2,12 +2,13 @@ mod Summaries
 pub mod AcceptingLemmas
 pub mod Comings
 pub mod Conclusions
-pub mod FewGivens
 pub mod Gains
 pub mod GradingLemmas
 pub mod JoinedRows
 pub mod Joining
 pub mod Known
+mod KnownVectors
+pub mod Knowings
 pub mod Openings
 pub mod Orderings
 pub mod ReadableLemmas

@@ -35,7 +35,7 @@ use Rattle.path_table.specs.Rows.{row_paths}
 use Rattle.rel_infer.specs.SelfAcceptance.{AreTableRows}
 use Rattle.rel_infer.specs.declared.earlier_table.Rest.{Rest}
 use Rattle.rel_infer.specs.Earlier.{BeginsWithPathsOf, IsRestOf}
-use Rattle.relationships.specs.declared.given.Given.{Given}
+use Rattle.as_rel.specs.declared.givens.KnownLines.{KnownLines}
 use Rattle.rel_infer.specs.GivenResults.{IsResultWith}
 use Rattle.rel_infer.specs.Resumed.{Continues}
 use Rattle.tor_words.specs.declared.settings.Settings.{Settings}
@@ -47,12 +47,14 @@ use Rattle.run_base.specs.Answers.{IsReadFault}
 use Rattle.run_base.specs.Reading.{IsOfSomeDumps, seen_from, seen_of}
 use Rattle.run_base.proofs.Values as values
 use Rattle.tor_output.specs.First.{First, Nothing, Givens, Result as ResultAt, Earlier, AreGivens, AsksToResume, HoldsResult, IsTakenUp, first_in}
-use Rattle.tor_output.specs.Output.{GainsOutput, IsResumed, IsOutput, IsOutputOn, IsOutputOnEarlier, IsOutputOnSome, paths_joined}
+use Rattle.tor_output.specs.Output.{GainsOutput, IsResultOn, IsResumed, IsOutput, IsOutputOn, IsOutputOnEarlier, IsOutputOnSome, paths_joined}
 use Rattle.tor_output.specs.Reach.{StopsDumpsInReach, StopsInReach}
 use Rattle.tor_output.specs.Refusals.{StopsAt, IsStopAt, past_limit}
 use Rattle.tor_output.specs.Resuming.{GainsResumed}
 use Rattle.tor_output.specs.Sampling.{sample_of}
-use Rattle.tor_output.specs.Begun.{IsBegun}
+use Rattle.relationships.specs.declared.given.Given.{Given}
+use Rattle.tor_output.specs.Begun.{IsBegun, KnowsFurther, knowing}
+use Rattle.tor_output.specs.Knowing.{known_on}
 use Rattle.tor_output.specs.Seen.{Outcome, Reads, Joins, Holds, Stops, Ends, ComesTo, joined, taken_up}
 use Rattle.tor_output.specs.declared.output.Output.{Output}
 use Rattle.tor_output.specs.Summary.{summary}
@@ -154,20 +156,30 @@ pub joined_paths : (settings : Settings) (old : ResultFile) (rest : Rest) (taken
 joined_paths settings old rest taken first paths many are left =
     are ∙ ap (λ n. ordered_behind settings.order n taken.table.rows) (many ∙ fates_left old rest left)
 
+-- the result of paths on top of what is left of one, where more is known
+pub result_on_is : {E : Type 0} (top : Option (List ℕ)) (ratio : ℕ) (earlier rest : Rest) (paths : List Counted) (counts : CauseCounts) (r : Result ResultFile E)
+    → ((old : ResultFile) → IsRestOf old earlier → BeginsWithPathsOf (row_paths paths) old → KnowsFurther top (row_paths paths) old rest)
+    → IfOk r (IsResultWith rest.givens rest.sets ratio paths counts)
+    → IfOk r (λ file. (old : ResultFile) → IsRestOf old rest → BeginsWithPathsOf (row_paths paths) old → Continues old file)
+    → IfOk r (λ file. (old : ResultFile) → IsRestOf old earlier → BeginsWithPathsOf (row_paths paths) old → IsResultOn top ratio old paths counts file)
+result_on_is top ratio earlier rest paths counts (Err e) knows is goes = tt
+result_on_is top ratio earlier rest paths counts (Ok file) knows is goes = λ old left begins.
+    let further = knows old left begins in (
+      subst (λ (sets : Sets). IsResultWith (known_on top old (row_paths paths)) sets ratio paths counts file) further.sets
+          (subst (λ (known : Option (List Given)). IsResultWith known rest.sets ratio paths counts file) further.givens is),
+      goes (knowing (known_on top old (row_paths paths)) old) further begins,
+    )
+
 -- the result of dumps on top of what is left of one, by the parts of both
 pub resumed_is : {E : Type 0} (settings : Settings) (rest : Rest) (taken : Taken) (first : ℕ) (paths : List Counted) (r : Result ResultFile E)
     → first ≡ length rest.fates → paths ≡ ordered_behind settings.order first taken.table.rows
-    → IfOk r (IsResultWith rest.givens rest.sets settings.ratio paths taken.counts)
-    → IfOk r (λ file. (old : ResultFile) → IsRestOf old rest → BeginsWithPathsOf (row_paths paths) old → Continues old file)
+    → IfOk r (λ file. (old : ResultFile) → IsRestOf old rest → BeginsWithPathsOf (row_paths paths) old → IsResultOn settings.top settings.ratio old paths taken.counts file)
     → IfOk r (λ file. (old : ResultFile) → IsRestOf old rest → BeginsWithPathsOf (row_paths taken.table.rows) old → IsResumed settings old taken file)
-resumed_is settings rest taken first paths (Err e) many are is goes = tt
-resumed_is settings rest taken first paths (Ok file) many are is goes = λ old left begins.
-    let same = joined_paths settings old rest taken first paths many are left in (
-      subst (λ (rows : List Counted). IsResultWith old.givens old.sets settings.ratio rows taken.counts file) same
-          (subst (λ (sets : Sets). IsResultWith old.givens sets settings.ratio paths taken.counts file) left.sets
-          (subst (λ (known : Option (List Given)). IsResultWith known rest.sets settings.ratio paths taken.counts file) left.givens is)),
-      goes old left (subst (λ (rows : List Counted). BeginsWithPathsOf (row_paths rows) old) (sym same) (begin_too settings.order old taken.table.rows begins)),
-    )
+resumed_is settings rest taken first paths (Err e) many are is = tt
+resumed_is settings rest taken first paths (Ok file) many are is = λ old left begins.
+    let same = joined_paths settings old rest taken first paths many are left in
+    subst (λ (rows : List Counted). IsResultOn settings.top settings.ratio old rows taken.counts file) same
+    (is old left (subst (λ (rows : List Counted). BeginsWithPathsOf (row_paths rows) old) (sym same) (begin_too settings.order old taken.table.rows begins)))
 
 -- ---- what is taken up
 
@@ -317,7 +329,7 @@ module _ (settings : Settings) (earlier : ResultFile) (r : Refusal) (why : ((r �
 -- ---- what is gained
 
 -- a result that is taken up is no list of what is known, and is not held alone
-not_known : {X : Type 0} (f : First) (files : Files) (known : Option (List Given)) → IsTakenUp f → AreGivens f files known → X
+not_known : {X : Type 0} (f : First) (files : Files) (known : Option KnownLines) → IsTakenUp f → AreGivens f files known → X
 not_known Nothing files known up are = absurd up
 not_known (Givens name) files known up are = absurd up
 not_known (ResultAt name) files known up are = absurd up

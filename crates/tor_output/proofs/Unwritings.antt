@@ -2,7 +2,7 @@
 use Rattle.std.proofs.Common.{◌≡◌, ◌≤◌, inl, inr, ℕ, List, [], length, Option, Some, None, Result, Ok, refl, sym, ap, subst, ◌∙◌}
 use Rattle.std.specs.Prelude.{IfSome, ⊤}
 use Rattle.tor_io.specs.Contents.{Files}
-use Rattle.relationships.specs.declared.given.Given.{Given}
+use Rattle.as_rel.specs.declared.givens.KnownLines.{KnownLines}
 use Rattle.dump_read.specs.declared.error.DumpError.{DumpError}
 use Rattle.dump_read.specs.declared.error.DumpError.TheVariants as error
 use Rattle.dump_read.specs.declared.taking.Taken.{Taken}
@@ -51,7 +51,7 @@ weaker see dumps known steady later dump error.NoMemory on stops = tt
 
 module _ (settings : Settings) (job : Job) (is : settings.job ≡ job) where
   -- of what is known and of dumps
-  module _ (givens : Option (List Given)) (output : Written) where
+  module _ (givens : Option KnownLines) (output : Written) where
     abbrev Made : Files → Type 0
     Made files = (taken : Taken) × (seen_beside (sample_of job) settings (dumps_of job) files ≡ Ok taken) × IsOutputIn job settings givens taken output
 
@@ -107,11 +107,11 @@ module _ (settings : Settings) (job : Job) (is : settings.job ≡ job) where
   taken_some earlier output some m = (Joins earlier m.0, (subst (λ (j : Job). TakesUpSome (first_of j) earlier) (sym is) some, m.1, m.2, m.3), m.4)
 
   -- the reading of dumps stopped, behind what is known
-  pub dumps_refused : (mid known : Option Files) (steady later : Type 0) (givens : Option (List Given)) (r : Refusal) → mid ≡ known → (steady → later) → AreGivensIn (first_of job) known givens
+  pub dumps_refused : (mid known : Option Files) (steady later : Type 0) (givens : Option KnownLines) (r : Refusal) → mid ≡ known → (steady → later) → AreGivensIn (first_of job) known givens
       → IsStopAt (seen_beside (sample_of job) settings) (dumps_of job) mid later r → IsUnwrittenIn settings known steady (unwritten.Refused r)
   dumps_refused mid known steady later givens (refusal.Words w) same on are h = absurd h
   dumps_refused mid known steady later givens (refusal.Dumps stopped) same on are h = inl (
-    all_known known (λ files. AreGivens (first_of job) files givens) (λ files. (gs : Option (List Given)) × AreGivens (first_in settings) files gs)
+    all_known known (λ files. AreGivens (first_of job) files givens) (λ files. (gs : Option KnownLines) × AreGivens (first_in settings) files gs)
         (λ files a. (givens, subst (λ (j : Job). AreGivens (first_of j) files givens) (sym is) a)) are,
     weaker (seen_beside (sample_of settings.job) settings) (dumps_in settings) known steady later stopped.dump stopped.error on
         (subst (λ (j : Job). StopsAt (seen_beside (sample_of j) settings) (dumps_of j) known later stopped.dump stopped.error) (sym is)

@@ -1,7 +1,7 @@
 -- What a result has beside the definitions that it follows from.
 use Rattle.std.specs.Prelude.{◌≡◌, ℕ, List, Option, Some}
 use Rattle.tor_io.specs.Contents.{Files}
-use Rattle.relationships.specs.declared.given.Given.{Given}
+use Rattle.as_rel.specs.declared.givens.KnownLines.{KnownLines}
 use Rattle.dump_read.specs.declared.taking.Taken.{Taken}
 use Rattle.result_text.specs.declared.file.ResultFile.{ResultFile}
 use Rattle.rel_infer.specs.SelfAcceptance.{AreTableRows, IsVouchedFor}
@@ -19,13 +19,13 @@ IsVouchedIn settings taken file = IsVouchedFor settings.ratio (paths_taken setti
 -- of paths as a table has them, of sound givens, and of settings that words give, each result that is faithful has all this
 abbrev pub FaithfulLaw : Type 0
 FaithfulLaw =
-    (words : List (List ℕ)) (settings : Settings) (known : Option (List Given)) (taken : Taken) (file : ResultFile) →
+    (words : List (List ℕ)) (settings : Settings) (known : Option KnownLines) (taken : Taken) (file : ResultFile) →
     settings_given words ≡ Some settings → AreSound known → AreTableRows taken.table.rows → Faithful settings known taken file →
     IsVouchedIn settings taken file
 
 -- the paths that dumps give are as a table has them, and what a file of known relationships says is sound
 abbrev pub TableLaw : Type 0
 TableLaw =
-    (words : List (List ℕ)) (settings : Settings) (files : Files) (known : Option (List Given)) (taken : Taken) →
+    (words : List (List ℕ)) (settings : Settings) (files : Files) (known : Option KnownLines) (taken : Taken) →
     settings_given words ≡ Some settings →
     ComesTo settings files (Reads known taken) → AreTableRows taken.table.rows × AreSound known

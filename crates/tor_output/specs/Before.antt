@@ -1,7 +1,7 @@
 -- What comes before a dump at which reading stopped.
 use Rattle.std.specs.Prelude.{◌⊎◌, ◌-◌, ℕ, List, take, Option, IfSome, Result, IsOk}
 use Rattle.tor_io.specs.Contents.{Files}
-use Rattle.relationships.specs.declared.given.Given.{Given}
+use Rattle.as_rel.specs.declared.givens.KnownLines.{KnownLines}
 use Rattle.dump_read.specs.declared.taking.Taken.{Taken}
 use Rattle.dump_read.specs.Seen.{DumpsEnd}
 use Rattle.tor_words.specs.declared.settings.Settings.{Settings}
@@ -13,7 +13,7 @@ use Rattle.tor_output.specs.Seen.{joined, seen_beside}
 
 -- the file of known relationships, if one is named, is there, and all its lines are good
 abbrev pub AreGivensGood : Settings → Option Files → Type 0
-AreGivensGood settings known = IfSome known (λ files. (givens : Option (List Given)) × AreGivens (first_in settings) files givens)
+AreGivensGood settings known = IfSome known (λ files. (givens : Option KnownLines) × AreGivens (first_in settings) files givens)
 
 -- the dumps before this one have no end, seen so
 abbrev pub HasNoEndBefore : (List (List ℕ) → Files → Result Taken DumpsEnd) → List (List ℕ) → Files → ℕ → Type 0

@@ -1,10 +1,9 @@
 -- The file that a run reads whole before any dump, where the words name one: known relationships, or a result, which may be taken up.
-use Rattle.std.specs.Prelude.{◌≡◌, ◌≤◌, ℕ, List, [], length, Option, Some, None, Ok, Err, unwrap_or, ⊤}
+use Rattle.std.specs.Prelude.{◌≡◌, ◌≤◌, ℕ, List, length, Option, Some, None, Err, ⊤}
 use Rattle.tor_io.specs.Contents.{Files}
-use Rattle.relationships.specs.declared.given.Given.{Given}
+use Rattle.as_rel.specs.declared.givens.KnownLines.{KnownLines}
 use Rattle.relationships.specs.Givens.{NameTwo, NameOnce}
-use Rattle.as_rel.specs.declared.line.RelLine.{RelLine}
-use Rattle.as_rel.specs.Givens.{givens_in}
+use Rattle.as_rel.specs.Givens.{SaysKnown}
 use Rattle.as_rel.specs.Serial.{rel_in}
 use Rattle.result_text.specs.declared.file.ResultFile.{ResultFile}
 use Rattle.result_text.specs.Grammar.{IsTextOf, IsBadLine}
@@ -18,6 +17,7 @@ use Rattle.run_base.specs.declared.notes.FirstFile.TheVariants as first
 use Rattle.run_base.specs.WholeFile.{IsFile, IsLongFile}
 use Rattle.result_file.specs.Ruled.{IsAccepted, BreaksRule}
 use Rattle.result_file.specs.Limits.{max_result}
+use Rattle.tor_output.specs.Knowing.{said_givens}
 use Rattle.tor_output.specs.Limits.{max_given_octets}
 
 -- what is read first
@@ -77,16 +77,12 @@ OfFirst (Earlier name) P = P max_result name
 
 -- ---- what it gives
 
--- the lines of these octets are good, and say these relationships, in order
-abbrev pub SaysGivens : List ℕ → List Given → Type 0
-SaysGivens bytes givens = (rel : List RelLine) × (rel_in bytes ≡ Ok rel) × (givens_in rel ≡ givens)
-
--- these relationships are known: those that the file says; and none where no such file is named
-abbrev pub AreGivens : First → Files → Option (List Given) → Type 0
+-- this is known: what the file says; and nothing where no such file is named
+abbrev pub AreGivens : First → Files → Option KnownLines → Type 0
 AreGivens Nothing files None = ⊤
 AreGivens Nothing files (Some givens) = ⊥
 AreGivens (Givens name) files None = ⊥
-AreGivens (Givens name) files (Some givens) = (bytes : List ℕ) × IsFile max_given_octets files name bytes × SaysGivens bytes givens
+AreGivens (Givens name) files (Some givens) = (bytes : List ℕ) × IsFile max_given_octets files name bytes × SaysKnown bytes givens
 AreGivens (Result name) files known = ⊥
 AreGivens (Earlier name) files known = ⊥
 
@@ -138,18 +134,18 @@ EndsAtFirst f files (Broken line rule) = HasBrokenRule f files line rule
 
 -- ---- what it gives whatever the files hold
 
--- some octets, few enough, say that these relationships are known
-abbrev pub AreSomeGivens : First → Option (List Given) → Type 0
+-- some octets, few enough, say that this is known
+abbrev pub AreSomeGivens : First → Option KnownLines → Type 0
 AreSomeGivens Nothing None = ⊤
 AreSomeGivens Nothing (Some givens) = ⊥
 AreSomeGivens (Givens name) None = ⊥
-AreSomeGivens (Givens name) (Some givens) = (bytes : List ℕ) × (length bytes ≤ max_given_octets) × SaysGivens bytes givens
+AreSomeGivens (Givens name) (Some givens) = (bytes : List ℕ) × (length bytes ≤ max_given_octets) × SaysKnown bytes givens
 AreSomeGivens (Result name) known = ⊥
 AreSomeGivens (Earlier name) known = ⊥
 
--- what is known, if anything is, names two ASes each time, and no two of them twice
-abbrev pub AreSound : Option (List Given) → Type 0
-AreSound known = NameTwo (unwrap_or known []) × NameOnce (unwrap_or known [])
+-- what is said, if anything is, names two ASes each time, and no two of them twice
+abbrev pub AreSound : Option KnownLines → Type 0
+AreSound said = NameTwo (said_givens said) × NameOnce (said_givens said)
 
 -- some octets, few enough, are the text of this result
 abbrev pub IsSomeResult : First → ResultFile → Type 0

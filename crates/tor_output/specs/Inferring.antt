@@ -1,7 +1,7 @@
 -- What `tor` is to its run: by its job it reads dumps, a sample, or a result, and writes what is made of that.
 use Rattle.std.specs.Prelude.{[], ℕ, zero, suc, List, Option, None, Some, IfSome, option_map, ⊤}
 use Rattle.tor_io.specs.Contents.{Files}
-use Rattle.relationships.specs.declared.given.Given.{Given}
+use Rattle.as_rel.specs.declared.givens.KnownLines.{KnownLines}
 use Rattle.dump_read.specs.declared.taking.Taken.{Taken}
 use Rattle.result_text.specs.declared.file.ResultFile.{ResultFile}
 use Rattle.tor_words.specs.declared.job.Job.{Job}
@@ -43,7 +43,7 @@ reads_by (Resume earlier dumps) = Some (record { first = Some (result_named earl
 -- what a text is made of
 pub data Basis : Type 0 where
   -- these relationships are known, if a file of them is named, and the dumps, or the sample, gave that
-  Seen : Option (List Given) → Taken → Basis
+  Seen : Option KnownLines → Taken → Basis
   -- this result is taken up, and the dumps gave that on top of it
   Joined : ResultFile → Taken → Basis
   -- the file holds this result

@@ -5,6 +5,7 @@ pub mod Counts
 pub mod First
 pub mod Grading
 pub mod Inferring
+pub mod Knowing
 pub mod Limits
 pub mod Listing
 pub mod Opening

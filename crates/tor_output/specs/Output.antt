@@ -2,12 +2,17 @@
 use Rattle.std.specs.Prelude.{◌≡◌, ◌≤◌, ◌++◌, ◌∷◌, [], ℕ, List, length, map, Ok, Option, None, Some, unwrap_or}
 use Rattle.std.specs.Io.KnownBytes.{append_known}
 use Rattle.tor_io.specs.Contents.{Files}
+use Rattle.path_clean.specs.Counts.{CauseCounts}
 use Rattle.path_table.specs.Rows.{Counted, row_paths}
 use Rattle.path_order.specs.Orders.{ordered, ordered_behind}
 use Rattle.relationships.specs.declared.given.Given.{Given}
 use Rattle.dump_read.specs.declared.taking.Taken.{Taken}
+use Rattle.as_rel.specs.declared.givens.KnownLines.{KnownLines}
 use Rattle.as_rel.specs.Serial.{rel_in, rel_text}
 use Rattle.as_rel.specs.Labelled.{line_of_edge}
+use Rattle.asks.specs.declared.table.AskLine.{AskLine}
+use Rattle.asks.specs.Asks.{AreAskLinesOf}
+use Rattle.asks.specs.AsksText.{asks_text}
 use Rattle.ties.specs.declared.table.TieLine.{TieLine}
 use Rattle.ties.specs.Ties.{AreTieLinesOf}
 use Rattle.ties.specs.TiesText.{ties_text}
@@ -28,6 +33,7 @@ use Rattle.tor_words.specs.declared.task.Made.TheVariants as made
 use Rattle.tor_words.specs.Given.{dumps_in, settings_given}
 use Rattle.tor_survey.specs.SurveyText.{survey_text}
 use Rattle.tor_survey.specs.Surveys.{survey_of}
+use Rattle.tor_output.specs.Knowing.{known_of, known_on}
 use Rattle.tor_output.specs.Listing.{listing}
 use Rattle.tor_output.specs.Seen.{Outcome, Reads, Joins, Holds, Stops, Ends, ComesTo, joined, taken_up}
 use Rattle.tor_output.specs.Summary.{summary}
@@ -43,18 +49,35 @@ paths_taken settings taken = ordered settings.order taken.table.rows
 abbrev pub paths_joined : Settings → (earlier : ResultFile) → Taken → List Counted
 paths_joined settings earlier taken = ordered_behind settings.order (length earlier.paths) taken.table.rows
 
+-- ---- what is known
+
+-- in a run over dumps alone
+abbrev pub known_for : Settings → Option KnownLines → Taken → Option (List Given)
+known_for settings said taken = known_of settings.top said (row_paths (paths_taken settings taken))
+
+abbrev pub givens_for : Settings → Option KnownLines → Taken → List Given
+givens_for settings said taken = unwrap_or (known_for settings said taken) []
+
+-- and on top of an earlier result
+abbrev pub known_joined : Settings → (earlier : ResultFile) → Taken → Option (List Given)
+known_joined settings earlier taken = known_on settings.top earlier (row_paths (paths_joined settings earlier taken))
+
 -- ---- the result of what the dumps gave
 
 -- it has exactly their paths in order, times and counts, has what is known, and for these what follows from the definitions; that a checker
 -- accepts it follows too (Accepting.antt)
-abbrev pub Faithful : Settings → Option (List Given) → Taken → ResultFile → Type 0
-Faithful settings known taken file = IsResultWith known settings.sets settings.ratio (paths_taken settings taken) taken.counts file
+abbrev pub Faithful : Settings → Option KnownLines → Taken → ResultFile → Type 0
+Faithful settings said taken file = IsResultWith (known_for settings said taken) settings.sets settings.ratio (paths_taken settings taken) taken.counts file
 
 -- the result of what the dumps gave on top of an earlier one: it has exactly the paths, times and counts of both, the earlier one's sets
--- and givens, and for these what follows from the definitions; and its first path lines are those of the earlier one but for their times
+-- and what is known, and for these what follows from the definitions; and its first path lines are those of the earlier one but for their times
+abbrev pub IsResultOn : (top : Option (List ℕ)) → (ratio : ℕ) → (earlier : ResultFile) → List Counted → CauseCounts → ResultFile → Type 0
+IsResultOn top ratio earlier paths counts file =
+    IsResultWith (known_on top earlier (row_paths paths)) earlier.sets ratio paths counts file × Continues earlier file
+
 abbrev pub IsResumed : Settings → (earlier : ResultFile) → Taken → ResultFile → Type 0
 IsResumed settings earlier taken file =
-    IsResultWith earlier.givens earlier.sets settings.ratio (paths_joined settings earlier taken) taken.counts file × Continues earlier file
+    IsResultOn settings.top settings.ratio earlier (paths_joined settings earlier taken) taken.counts file
 
 -- ---- what is written
 
@@ -67,23 +90,35 @@ abbrev pub IsCounted : What → Settings → Taken → Written → Type 0
 IsCounted Listing settings taken output = (output.text ≡ listing (paths_taken settings taken)) × (output.note ≡ [])
 IsCounted Survey settings taken output = (output.text ≡ survey_text (survey_of taken)) × (output.note ≡ [])
 
+-- the lines of the ties of these paths under these givens
+abbrev pub AreTiesWritten : List Given → List (List ℕ) → Written → Type 0
+AreTiesWritten givens paths output =
+    (lines : List TieLine) × AreTieLinesOf givens paths lines × (output.text ≡ ties_text lines) × (output.note ≡ [])
+
+-- the lines of what each open edge of these paths would settle under these givens
+abbrev pub AreAsksWritten : List Given → List (List ℕ) → Written → Type 0
+AreAsksWritten givens paths output =
+    (lines : List AskLine) × AreAskLinesOf givens paths lines × (output.text ≡ asks_text lines) × (output.note ≡ [])
+
 -- what is made of what is known and what the dumps gave: the text of the result, and its summary as a note; the lines of the ties of their
--- paths; or the lines of what the labels of the result say
-abbrev pub IsMade : Made → Settings → Option (List Given) → Taken → Written → Type 0
+-- paths, or of their asks; or the lines of what the labels of the result say
+abbrev pub IsMade : Made → Settings → Option KnownLines → Taken → Written → Type 0
 IsMade made.Result settings known taken output =
     (file : ResultFile) × Faithful settings known taken file × IsTextOf file output.text × (output.note ≡ summary file ++ 10 ∷ [])
-IsMade made.Ties settings known taken output = (lines : List TieLine) ×
-    AreTieLinesOf (unwrap_or known []) (row_paths (paths_taken settings taken)) lines × (output.text ≡ ties_text lines) × (output.note ≡ [])
+IsMade made.Ties settings known taken output =
+    AreTiesWritten (givens_for settings known taken) (row_paths (paths_taken settings taken)) output
+IsMade made.Asks settings known taken output =
+    AreAsksWritten (givens_for settings known taken) (row_paths (paths_taken settings taken)) output
 IsMade made.Serial settings known taken output =
     (file : ResultFile) × Faithful settings known taken file × IsSerialOf file output.text × (output.note ≡ [])
 
 -- the summary of the result
-abbrev pub IsSummedUp : Settings → Option (List Given) → Taken → Written → Type 0
+abbrev pub IsSummedUp : Settings → Option KnownLines → Taken → Written → Type 0
 IsSummedUp settings known taken output =
     (file : ResultFile) × Faithful settings known taken file × (output.text ≡ summary file ++ 10 ∷ []) × (output.note ≡ [])
 
 -- by the job; a migration reads no dump, and what is resumed is no list of what is known
-abbrev pub IsOutputIn : Job → Settings → Option (List Given) → Taken → Written → Type 0
+abbrev pub IsOutputIn : Job → Settings → Option KnownLines → Taken → Written → Type 0
 IsOutputIn (Count counted dumps) settings known taken output = IsCounted counted settings taken output
 IsOutputIn (Infer made given dumps) settings known taken output = IsMade made settings known taken output
 IsOutputIn (Sample seed) settings known taken output = IsSummedUp settings known taken output

@@ -1,7 +1,7 @@
 -- Why there is no text to write, and the answer then.
 use Rattle.std.specs.Prelude.{◌≡◌, ◌≤◌, ◌⊎◌, ℕ, List, length, Option, Some, Result, Err, IfSome}
 use Rattle.tor_io.specs.Contents.{Files}
-use Rattle.relationships.specs.declared.given.Given.{Given}
+use Rattle.as_rel.specs.declared.givens.KnownLines.{KnownLines}
 use Rattle.dump_read.specs.declared.error.DumpError.{DumpError}
 use Rattle.dump_read.specs.declared.error.DumpError.TheVariants as error
 use Rattle.dump_read.specs.declared.error.LimitKind.TheVariants.{Paths}
@@ -55,7 +55,7 @@ past_limit = refusal.Dumps (record { dump = 0; error = error.Limit Paths })
 -- ---- the file that is read first
 
 -- what is known, if a file says it, is this
-abbrev pub AreGivensIn : First → Option Files → Option (List Given) → Type 0
+abbrev pub AreGivensIn : First → Option Files → Option KnownLines → Type 0
 AreGivensIn f known givens = IfSome known (λ files. AreGivens f files givens)
 
 -- this result is taken up

@@ -2,7 +2,7 @@
 -- taken up, and what the dumps give on top of it.
 use Rattle.std.specs.Prelude.{◌≡◌, ◌≤◌, ◌⊎◌, ℕ, nat_lt, if◌then◌else◌, List, [], length, Option, None, Some, Result, Ok, Err}
 use Rattle.tor_io.specs.Contents.{Files}
-use Rattle.relationships.specs.declared.given.Given.{Given}
+use Rattle.as_rel.specs.declared.givens.KnownLines.{KnownLines}
 use Rattle.dump_read.specs.declared.error.LimitKind.TheVariants.{Paths}
 use Rattle.dump_read.specs.declared.taking.Taken.{Taken}
 use Rattle.dump_read.specs.Seen.{DumpsEnd, Limit, of_file}
@@ -59,8 +59,8 @@ joined file limit dumps files =
 
 -- what is known and what dumps gave, a result, or why there is neither
 pub data Outcome : Type 0 where
-  -- these relationships are known, where a file of them is named, and all dumps gave that
-  Reads : Option (List Given) → Taken → Outcome
+  -- a file, if one is named, says that this is known, and all dumps gave that
+  Reads : Option KnownLines → Taken → Outcome
   -- this result is taken up, and all dumps gave that on top of it
   Joins : ResultFile → Taken → Outcome
   -- the file that is read first holds this result
@@ -72,7 +72,7 @@ pub data Outcome : Type 0 where
 
 -- the dumps have this end, where what is read first says what is known
 abbrev pub EndsBehindGivens : Settings → Files → DumpsEnd → Type 0
-EndsBehindGivens settings files end = (known : Option (List Given)) × AreGivens (first_in settings) files known ×
+EndsBehindGivens settings files end = (known : Option KnownLines) × AreGivens (first_in settings) files known ×
     (seen_in settings files ≡ Err end)
 
 -- they have it on top of the result that is taken up

@@ -1,20 +1,20 @@
 //! The file that a run reads to its end before any dump: known relationships, or a result, which may be taken up.
-ghost use Rattle.std.specs.Prelude.{◌≡◌, ◌≤◌, ◌++◌, ◌∷◌, [], Some, IfOk, IfErr, IfSome, IsSome, OnOk, IsErrAnd, length, unwrap_or};
+ghost use Rattle.std.specs.Prelude.{◌≡◌, ◌≤◌, ◌+◌, ◌*◌, ◌^◌, ◌++◌, ◌∷◌, [], Some, IfOk, IfErr, IfSome, IsSome, OnOk, IsErrAnd, length};
 ghost use Rattle.std.specs.Io.KnownBytes.{IsAtEnd};
-ghost use Rattle.relationships.specs.Givens.{NameTwo, NameOnce};
 ghost use Rattle.as_rel.specs.Serial.{IsReadingError};
 ghost use Rattle.run_base.specs.Frames.{ReadsShelf};
 ghost use Rattle.run_base.specs.Opening.{first_named};
-ghost use Rattle.tor_output.specs.First.{Givens, Result as ResultAt, Earlier, AreSomeGivens, SaysGivens, HoldsResult, IsSomeResult};
+ghost use Rattle.tor_output.specs.First.{Givens, Result as ResultAt, Earlier, AreSomeGivens, HoldsResult, IsSomeResult};
 ghost use Rattle.tor_output.specs.First.{AreSound, TakesUpSome, first_given};
-ghost use Rattle.rel_infer.specs.GivenInference.{max_givens};
+ghost use Rattle.relationships.specs.Givens.{NameTwo, NameOnce};
+ghost use Rattle.as_rel.specs.Givens.{SaysKnown};
+ghost use Rattle.tor_output.specs.Knowing.{said_givens};
 ghost use Rattle.tor_output.specs.Opening.{IsAtFirst};
 ghost use Rattle.tor_output.specs.Reach.{IsFirstInReach};
 ghost use Rattle.tor_output.specs.Refusals.{AreGivensIn, TakesUpIn, IsUnwrittenAtFirst, IsFailedRead};
 
 use crate::unwritten::Unwritten;
-use as_rel::{MAX_REL, RelError, parse_given};
-use relationships::Given;
+use as_rel::{KnownLines, MAX_REL, RelError, parse_known};
 use result_file::{MAX_RESULT, NoResult, Ruling, read_result, ruling_of_file};
 use result_text::ResultFile;
 use run_base::{FirstFile, Refusal, read_whole};
@@ -23,17 +23,17 @@ use tor_arena::{Keys, List};
 use tor_io::Shelf;
 use tor_words::Name;
 
-// The relationships that the octets say. The octets are let go.
-fn parse_givens(alloc: Global, keys: Keys, bytes: List<u8>) -> Result<List<Given>, RelError>
-    ensures ok { IfOk result (SaysGivens bytes) }
+// What the octets say is known. The octets are let go.
+fn parse_givens(alloc: Global, keys: Keys, bytes: List<u8>) -> Result<KnownLines, RelError>
+    ensures ok { IfOk result (SaysKnown bytes) }
     ensures err { IfErr result (λ e. IsReadingError e bytes) }
-    ensures two { IfOk result NameTwo }
-    ensures once { IfOk result NameOnce }
-    ensures few { IfOk result (λ givens. length givens ≤ length bytes) }
+    ensures two { IfOk result (λ said. NameTwo said.givens) }
+    ensures once { IfOk result (λ said. NameOnce said.givens) }
+    ensures few { IfOk result (λ said. 6 * length said.givens ≤ length bytes + 1) }
 {
-    let givens = parse_given(alloc, keys, bytes.as_slice());
+    let said = parse_known(alloc, keys, bytes.as_slice());
     drop(bytes);
-    givens
+    said
 }
 
 // What the file of this name says is known.
@@ -42,12 +42,12 @@ fn givens_in<H: Shelf>(
     keys: Keys,
     shelf: &mut H,
     name: &Name,
-) -> Result<List<Given>, Unwritten>
-    ensures known { IfOk result (λ givens. AreGivensIn (Givens name.now) (H.files shelf.old) (Some givens)) }
-    ensures of_some { IfOk result (λ givens. AreSomeGivens (Givens name.now) (Some givens)) }
-    ensures two { IfOk result NameTwo }
-    ensures once { IfOk result NameOnce }
-    ensures few { IfOk result (λ givens. length givens ≤ max_givens) }
+) -> Result<KnownLines, Unwritten>
+    ensures known { IfOk result (λ said. AreGivensIn (Givens name.now) (H.files shelf.old) (Some said)) }
+    ensures of_some { IfOk result (λ said. AreSomeGivens (Givens name.now) (Some said)) }
+    ensures two { IfOk result (λ said. NameTwo said.givens) }
+    ensures once { IfOk result (λ said. NameOnce said.givens) }
+    ensures few { IfOk result (λ said. 6 * length said.givens ≤ 2 ^ 28 + 1) }
     ensures unwritten { IfErr result (IsUnwrittenAtFirst (Givens name.now) (H.files shelf.old) (H.steady shelf.old)) }
     ensures reach { IfErr result (IsFirstInReach (Givens name.now) (H.files shelf.old) (H.left shelf.new)) }
     ensures at_first { IfErr result IsAtFirst }
@@ -57,7 +57,7 @@ fn givens_in<H: Shelf>(
 {
     match read_whole(alloc, shelf, name.as_text(), MAX_REL) {
         Ok(bytes) => match parse_givens(alloc, keys, bytes) {
-            Ok(givens) => Ok(givens),
+            Ok(said) => Ok(said),
             Err(RelError::BadLine(line)) => Err(Unwritten::BadLine(FirstFile::Given, line)),
             Err(RelError::NoMemory) => Err(Unwritten::Refused(Refusal::NoMemory)),
         },
@@ -71,11 +71,11 @@ pub(crate) fn givens_for<H: Shelf>(
     keys: Keys,
     shelf: &mut H,
     given: &Option<Name>,
-) -> Result<Option<List<Given>>, Unwritten>
+) -> Result<Option<KnownLines>, Unwritten>
     ensures known { IfOk result (AreGivensIn (first_given given.now) (H.files shelf.old)) }
     ensures of_some { IfOk result (AreSomeGivens (first_given given.now)) }
     ensures sound { IfOk result AreSound }
-    ensures few { IfOk result (λ givens. length (unwrap_or givens []) ≤ max_givens) }
+    ensures few { IfOk result (λ said. 6 * length (said_givens said) ≤ 2 ^ 28 + 1) }
     ensures unwritten { IfErr result (IsUnwrittenAtFirst (first_given given.now) (H.files shelf.old) (H.steady shelf.old)) }
     ensures reach { IfErr result (IsFirstInReach (first_given given.now) (H.files shelf.old) (H.left shelf.new)) }
     ensures at_first { IfErr result IsAtFirst }
@@ -87,7 +87,7 @@ pub(crate) fn givens_for<H: Shelf>(
     match given {
         None => Ok(None),
         Some(name) => match givens_in(alloc, keys, shelf, name) {
-            Ok(givens) => Ok(Some(givens)),
+            Ok(said) => Ok(Some(said)),
             Err(unwritten) => Err(unwritten),
         },
     }

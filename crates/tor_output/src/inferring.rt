@@ -1,12 +1,15 @@
 //! What is made of dumps, and of known relationships: the result, its ties, or the lines of what its labels say.
-ghost use Rattle.std.specs.Prelude.{◌≡◌, ◌≢◌, ◌≤◌, ◌<◌, ◌++◌, [], All, map, Ok, IfOk, IfErr, IfSome, IsErrAnd, OnOk, length, unwrap_or};
+ghost use Rattle.path_table.specs.Rows.{row_paths};
+ghost use Rattle.std.specs.Prelude.{◌≡◌, ◌≢◌, ◌≤◌, ◌<◌, ◌+◌, ◌*◌, ◌^◌, ◌++◌, [], All, map, Ok, IfOk, IfErr, IfSome, IsErrAnd, OnOk, length, unwrap_or};
 ghost use Rattle.std.specs.List.{AllPairs};
 ghost use Rattle.std.specs.Io.KnownBytes.{IsAtEnd};
 ghost use Rattle.tor_arena.specs.Limits.{max_paths, max_ratio};
 ghost use Rattle.as_rel.specs.Serial.{rel_in, rel_text};
 ghost use Rattle.as_rel.specs.Labelled.{ends_of, line_of_edge};
+ghost use Rattle.asks.specs.AsksText.{asks_text};
 ghost use Rattle.ties.specs.TiesText.{ties_text};
-ghost use Rattle.rel_infer.specs.GivenInference.{max_givens};
+ghost use Rattle.relationships.specs.Givens.{NameTwo, NameOnce};
+ghost use Rattle.tor_output.specs.Knowing.{said_givens};
 ghost use Rattle.rel_infer.specs.SelfAcceptance.{AreTableRows};
 ghost use Rattle.tor_words.specs.declared.job.Job.TheVariants.{Infer};
 ghost use Rattle.run_base.specs.Answers.{IsReadFault};
@@ -20,15 +23,18 @@ ghost use Rattle.tor_output.specs.Refusals.{IsFailedRead, IsStopAt, IsUnwrittenI
 ghost use Rattle.tor_output.specs.Seen.{Outcome, ComesOfSome, seen_of_dumps};
 ghost use Rattle.tor_output.specs.Written.{written};
 ghost use Rattle.tor_output.specs.First.{AreSound};
-ghost use Rattle.tor_output.specs.Output.{IsMade, IsOutput, IsOutputOf};
+ghost use Rattle.tor_output.specs.Output.{AreAsksWritten, AreTiesWritten, IsMade, IsOutput, IsOutputOf};
 
 use crate::dumps::dumps_taken;
 use crate::first::givens_for;
+use crate::knowing::known_among;
 use crate::ordering::paths_in_order;
 use crate::output::{Output, faithful_result, has_table_rows, text_and_summary};
 use crate::unwritten::Unwritten;
-use as_rel::{print_rel, rel_of};
+use as_rel::{KnownLines, print_rel, rel_of};
+use asks::{AskLine, asks_of_paths};
 use dump_read::Taken;
+use path_order::DistinctPaths;
 use relationships::Given;
 use result_text::EdgeLine;
 use run_base::Refusal;
@@ -43,15 +49,15 @@ fn labels_output(
     alloc: Global,
     keys: Keys,
     settings: &Settings,
-    givens: Option<List<Given>>,
+    said: Option<KnownLines>,
     taken: Taken,
 ) -> Result<Output, NoMemory>
     requires ratio { settings.now.ratio ≤ max_ratio }
-    requires sound { AreSound givens }
-    requires few { length (unwrap_or givens []) ≤ max_givens }
-    ensures { IfOk result (λ output. IsMade Made.Result settings.now givens taken (written output)) }
+    requires sound { AreSound said }
+    requires few { 6 * length (said_givens said) ≤ 2 ^ 28 + 1 }
+    ensures { IfOk result (λ output. IsMade Made.Result settings.now said taken (written output)) }
 {
-    let file = faithful_result(alloc, keys, settings, givens, taken)?;
+    let file = faithful_result(alloc, keys, settings, said, taken)?;
     text_and_summary(alloc, file)
 }
 
@@ -79,11 +85,12 @@ fn ties_output(
     alloc: Global,
     keys: Keys,
     settings: &Settings,
-    givens: Option<List<Given>>,
+    said: Option<KnownLines>,
     taken: Taken,
 ) -> Result<Output, NoMemory>
-    requires { AreSound givens }
-    ensures { IfOk result (λ output. IsMade Made.Ties settings.now givens taken (written output)) }
+    requires sound { AreSound said }
+    requires few { 6 * length (said_givens said) ≤ 2 ^ 28 + 1 }
+    ensures { IfOk result (λ output. IsMade Made.Ties settings.now said taken (written output)) }
 {
     let Taken {
         table,
@@ -91,13 +98,93 @@ fn ties_output(
         files,
     } = taken;
     drop(files);
-    let lines = match paths_in_order(alloc, settings, table) {
-        Ok(paths) => ties_of_paths(alloc, keys, given_slice(&givens), paths),
-        Err(NoMemory) => Err(NoMemory),
+    let Ok(paths) = paths_in_order(alloc, settings, table) else {
+        drop(said);
+        return Err(NoMemory);
     };
-    drop(givens);
+    match known_among(alloc, keys, &settings.top, said, &paths) {
+        Ok(known) => ties_under(alloc, keys, known, paths),
+        Err(NoMemory) => {
+            drop(paths);
+            Err(NoMemory)
+        }
+    }
+}
+
+// The ties of paths under what is known.
+fn ties_under(
+    alloc: Global,
+    keys: Keys,
+    known: Option<List<Given>>,
+    paths: DistinctPaths,
+) -> Result<Output, NoMemory>
+    requires two { NameTwo (unwrap_or known []) }
+    requires once { NameOnce (unwrap_or known []) }
+    ensures { IfOk result (λ output. AreTiesWritten (unwrap_or known []) (row_paths paths) (written output)) }
+{
+    let lines = ties_of_paths(alloc, keys, given_slice(&known), paths);
+    drop(known);
     let lines = lines?;
     let output = ties_alone(alloc, lines.as_slice());
+    drop(lines);
+    output
+}
+
+// The text of asks, without a note.
+fn asks_alone(alloc: Global, lines: &[AskLine]) -> Result<Output, NoMemory>
+    ensures text { IfOk result (λ output. (written output).text ≡ asks_text lines.now) }
+    ensures note { IfOk result (λ output. (written output).note ≡ []) }
+{
+    let text = asks::text_of(alloc, lines)?;
+    Ok(Output::Text(text, List::new(alloc)))
+}
+
+// The asks of the paths that the dumps gave.
+fn asks_output(
+    alloc: Global,
+    keys: Keys,
+    settings: &Settings,
+    said: Option<KnownLines>,
+    taken: Taken,
+) -> Result<Output, NoMemory>
+    requires sound { AreSound said }
+    requires few { 6 * length (said_givens said) ≤ 2 ^ 28 + 1 }
+    ensures { IfOk result (λ output. IsMade Made.Asks settings.now said taken (written output)) }
+{
+    let Taken {
+        table,
+        counts: _,
+        files,
+    } = taken;
+    drop(files);
+    let Ok(paths) = paths_in_order(alloc, settings, table) else {
+        drop(said);
+        return Err(NoMemory);
+    };
+    match known_among(alloc, keys, &settings.top, said, &paths) {
+        Ok(known) => asks_under(alloc, keys, known, paths),
+        Err(NoMemory) => {
+            drop(paths);
+            Err(NoMemory)
+        }
+    }
+}
+
+// The asks of paths under what is known.
+fn asks_under(
+    alloc: Global,
+    keys: Keys,
+    known: Option<List<Given>>,
+    paths: DistinctPaths,
+) -> Result<Output, NoMemory>
+    requires two { NameTwo (unwrap_or known []) }
+    requires once { NameOnce (unwrap_or known []) }
+    ensures { IfOk result (λ output. AreAsksWritten (unwrap_or known []) (row_paths paths) (written output)) }
+{
+    let lines = asks_of_paths(alloc, keys, given_slice(&known), paths);
+    drop(known);
+    let lines = lines?;
+    let output = asks_alone(alloc, lines.as_slice());
     drop(lines);
     output
 }
@@ -121,16 +208,16 @@ fn serial_output(
     alloc: Global,
     keys: Keys,
     settings: &Settings,
-    givens: Option<List<Given>>,
+    said: Option<KnownLines>,
     taken: Taken,
 ) -> Result<Output, NoMemory>
     requires ratio { settings.now.ratio ≤ max_ratio }
-    requires sound { AreSound givens }
-    requires few { length (unwrap_or givens []) ≤ max_givens }
-    ensures { IfOk result (λ output. IsMade Made.Serial settings.now givens taken (written output)) }
+    requires sound { AreSound said }
+    requires few { 6 * length (said_givens said) ≤ 2 ^ 28 + 1 }
+    ensures { IfOk result (λ output. IsMade Made.Serial settings.now said taken (written output)) }
 {
     has_table_rows(&taken.table);
-    let file = faithful_result(alloc, keys, settings, givens, taken)?;
+    let file = faithful_result(alloc, keys, settings, said, taken)?;
     let output = serial_alone(alloc, keys, file.edges.as_slice());
     drop(file);
     output
@@ -142,18 +229,19 @@ fn made_of(
     keys: Keys,
     settings: &Settings,
     made: Made,
-    givens: Option<List<Given>>,
+    said: Option<KnownLines>,
     taken: Taken,
 ) -> Result<Output, NoMemory>
     requires ratio { settings.now.ratio ≤ max_ratio }
-    requires sound { AreSound givens }
-    requires few { length (unwrap_or givens []) ≤ max_givens }
-    ensures { IfOk result (λ output. IsMade made settings.now givens taken (written output)) }
+    requires sound { AreSound said }
+    requires few { 6 * length (said_givens said) ≤ 2 ^ 28 + 1 }
+    ensures { IfOk result (λ output. IsMade made settings.now said taken (written output)) }
 {
     match made {
-        Made::Result => labels_output(alloc, keys, settings, givens, taken),
-        Made::Ties => ties_output(alloc, keys, settings, givens, taken),
-        Made::Serial => serial_output(alloc, keys, settings, givens, taken),
+        Made::Result => labels_output(alloc, keys, settings, said, taken),
+        Made::Ties => ties_output(alloc, keys, settings, said, taken),
+        Made::Asks => asks_output(alloc, keys, settings, said, taken),
+        Made::Serial => serial_output(alloc, keys, settings, said, taken),
     }
 }
 
@@ -163,20 +251,20 @@ fn made_under<H: Shelf>(
     keys: Keys,
     settings: &Settings,
     made: Made,
-    givens: Option<List<Given>>,
+    said: Option<KnownLines>,
     dumps: &List<Name>,
     shelf: &mut H,
 ) -> Result<Output, Refusal>
     requires some { 1 ≤ settings.now.max_paths }
     requires most { settings.now.max_paths ≤ max_paths }
     requires ratio { settings.now.ratio ≤ max_ratio }
-    requires sound { AreSound givens }
-    requires few { length (unwrap_or givens []) ≤ max_givens }
+    requires sound { AreSound said }
+    requires few { 6 * length (said_givens said) ≤ 2 ^ 28 + 1 }
     ensures output { IfOk result (λ output. IfSome (H.files shelf.old) (λ files. (taken : TakenIn) ×
-        (seen_of_dumps settings.now dumps.now files ≡ Ok taken) × IsMade made settings.now givens taken (written output))) }
+        (seen_of_dumps settings.now dumps.now files ≡ Ok taken) × IsMade made settings.now said taken (written output))) }
     ensures of_some { IfOk result (λ output. (taken : TakenIn) ×
         IsOfSomeDumps settings.now.sets (length dumps.now) (nothing settings.now.max_paths) taken ×
-        AreTableRows taken.table.rows × IsMade made settings.now givens taken (written output)) }
+        AreTableRows taken.table.rows × IsMade made settings.now said taken (written output)) }
     ensures refused { IfErr result (IsStopAt (seen_of_dumps settings.now) dumps.now (H.files shelf.old) (H.steady shelf.old)) }
     ensures read_out { OnOk result (0 < length dumps.now → IsAtEnd (H.left shelf.new)) }
     ensures reach { IfErr result (StopsDumpsInReach dumps.now (H.files shelf.old) (H.left shelf.new)) }
@@ -186,12 +274,12 @@ fn made_under<H: Shelf>(
     ensures reads_shelf { ReadsShelf H.Shelf (IsErrAnd result IsReadFault) shelf.old shelf.new }
 {
     match dumps_taken(alloc, keys, settings, dumps, shelf) {
-        Ok(taken) => match made_of(alloc, keys, settings, made, givens, taken) {
+        Ok(taken) => match made_of(alloc, keys, settings, made, said, taken) {
             Ok(output) => Ok(output),
             Err(NoMemory) => Err(Refusal::NoMemory),
         },
         Err(refusal) => {
-            drop(givens);
+            drop(said);
             Err(refusal)
         }
     }
@@ -225,7 +313,7 @@ pub(crate) fn inferred_output<H: Shelf>(
     ensures reads_shelf { ReadsShelf H.Shelf (IsErrAnd result IsFailedRead) shelf.old shelf.new }
 {
     match givens_for(alloc, keys, shelf, given) {
-        Ok(givens) => match made_under(alloc, keys, settings, made, givens, dumps, shelf) {
+        Ok(said) => match made_under(alloc, keys, settings, made, said, dumps, shelf) {
             Ok(output) => Ok(output),
             Err(refusal) => Err(Unwritten::Refused(refusal)),
         },

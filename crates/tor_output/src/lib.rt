@@ -7,6 +7,7 @@ mod counting;
 mod dumps;
 mod first;
 mod inferring;
+mod knowing;
 mod listing;
 mod migrating;
 mod ordering;

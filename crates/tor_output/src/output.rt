@@ -1,12 +1,12 @@
 //! What a run that is done writes.
 ghost use Rattle.std.specs.Prelude.{◌≡◌, ◌≤◌, ◌++◌, ◌∷◌, [], IfOk, OnOk, OnErr, length, string_bytes};
-ghost use Rattle.std.specs.Prelude.{unwrap_or};
+ghost use Rattle.std.specs.Prelude.{◌+◌, ◌*◌, ◌^◌};
+ghost use Rattle.tor_output.specs.Knowing.{said_givens};
 ghost use Rattle.std.specs.Io.KnownBytes.{append_known};
 ghost use Rattle.tor_arena.specs.Limits.{max_ratio};
 ghost use Rattle.tor_io.specs.Counts.{HasCause};
 ghost use Rattle.tor_io.specs.Contents.{GainsPrefix};
 ghost use Rattle.tor_output.specs.First.{AreSound};
-ghost use Rattle.rel_infer.specs.GivenInference.{max_givens};
 ghost use Rattle.tor_output.specs.Output.{Faithful};
 ghost use Rattle.result_text.specs.Grammar.{IsTextOf};
 ghost use Rattle.result_text.specs.Text.{text};
@@ -15,14 +15,15 @@ ghost use Rattle.tor_output.specs.Listing.{listing};
 ghost use Rattle.tor_output.specs.Summary.{summary};
 ghost use Rattle.tor_output.specs.Written.{written};
 
+use crate::knowing::known_among;
 use crate::listing::write_list;
 use crate::ordering::paths_in_order;
 use crate::summary::summary_text;
+use as_rel::KnownLines;
 use dump_read::Taken;
 use path_order::DistinctPaths;
 use path_table::PathTable;
 use rel_infer::{ResultHead, result_with};
-use relationships::Given;
 use result_text::{ResultFile, in_range, write_text};
 use std::alloc::Global;
 use tor_arena::{Keys, List, NoMemory};
@@ -166,13 +167,13 @@ pub(crate) fn faithful_result(
     alloc: Global,
     keys: Keys,
     settings: &Settings,
-    givens: Option<List<Given>>,
+    said: Option<KnownLines>,
     taken: Taken,
 ) -> Result<ResultFile, NoMemory>
     requires ratio { settings.now.ratio ≤ max_ratio }
-    requires sound { AreSound givens }
-    requires few { length (unwrap_or givens []) ≤ max_givens }
-    ensures { IfOk result (Faithful settings.now givens taken) }
+    requires sound { AreSound said }
+    requires few { 6 * length (said_givens said) ≤ 2 ^ 28 + 1 }
+    ensures { IfOk result (Faithful settings.now said taken) }
 {
     let Taken {
         table,
@@ -181,7 +182,11 @@ pub(crate) fn faithful_result(
     } = taken;
     drop(files);
     let Ok(paths) = paths_in_order(alloc, settings, table) else {
-        drop(givens);
+        drop(said);
+        return Err(NoMemory);
+    };
+    let Ok(known) = known_among(alloc, keys, &settings.top, said, &paths) else {
+        drop(paths);
         return Err(NoMemory);
     };
     let head = ResultHead {
@@ -189,7 +194,7 @@ pub(crate) fn faithful_result(
         ratio: settings.ratio,
         asides: counts,
     };
-    result_with(alloc, keys, head, givens, paths)
+    result_with(alloc, keys, head, known, paths)
 }
 
 /// A result that is to be written, with this note. What its text takes is all taken here.

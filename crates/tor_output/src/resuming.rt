@@ -1,7 +1,7 @@
 //! The result of dumps on top of an earlier one.
-ghost use Rattle.std.specs.Prelude.{◌≡◌, ◌≤◌, ◌<◌, ◌⊎◌, ◌++◌, Ok, IfOk, IfErr, IfSome, OnOk, IsErrAnd, length, unwrap_or, []};
+ghost use Rattle.std.specs.Prelude.{◌≡◌, ◌≤◌, ◌+◌, ◌<◌, ◌⊎◌, ◌++◌, Ok, IfOk, IfErr, IfSome, OnOk, IsErrAnd, length, unwrap_or, []};
 ghost use Rattle.std.specs.Io.KnownBytes.{IsAtEnd};
-ghost use Rattle.tor_arena.specs.Limits.{max_paths, max_ratio};
+ghost use Rattle.tor_arena.specs.Limits.{max_numbers, max_paths, max_ratio};
 ghost use Rattle.result_rules.specs.Rules.{Accepts};
 ghost use Rattle.result_text.specs.Text.{its_givens};
 ghost use Rattle.rel_infer.specs.GivenInference.{max_givens};
@@ -14,11 +14,11 @@ ghost use Rattle.run_base.specs.Answers.{IsReadFault};
 ghost use Rattle.run_base.specs.Frames.{ReadsShelf};
 ghost use Rattle.run_base.specs.Opening.{AllRead, OpensDumps, OpensInOrder};
 ghost use Rattle.tor_output.specs.Opening.{UnwrittenEnds, named_in};
-ghost use Rattle.tor_output.specs.Output.{IsResumed, IsOutput, IsOutputOf, IsOutputOn, IsOutputOnEarlier, IsOutputOnSome};
+ghost use Rattle.tor_output.specs.Output.{IsResultOn, IsResumed, IsOutput, IsOutputOf, IsOutputOn, IsOutputOnEarlier, IsOutputOnSome};
 ghost use Rattle.tor_output.specs.Reach.{IsUnwrittenInReach, StopsDumpsInReach, StopsInReach};
 ghost use Rattle.tor_output.specs.Refusals.{IsFailedRead, IsStopAt, IsUnwrittenIn, past_limit};
 ghost use Rattle.tor_output.specs.First.{IsTakenUp, first_in};
-ghost use Rattle.tor_output.specs.Begun.{IsBegun};
+ghost use Rattle.tor_output.specs.Begun.{IsBegun, KnowsFurther};
 ghost use Rattle.tor_output.specs.Seen.{Outcome, ComesOfSome, joined};
 ghost use Rattle.tor_output.specs.Written.{written};
 
@@ -28,10 +28,12 @@ use crate::output::{Output, has_table_rows, text_and_summary};
 use crate::unwritten::Unwritten;
 use dump_read::{DumpError, LimitKind, Taken};
 use path_clean::{Asides, Cause};
+use path_order::DistinctPaths;
 use rel_infer::{Rest, TableRefused, result_resumed, take_up};
 use result_text::ResultFile;
 use run_base::{Refusal, Stopped, read_dumps};
 use std::alloc::Global;
+use top_givens::bind_top;
 use tor_arena::{Keys, List, NoMemory};
 use tor_io::Shelf;
 use tor_words::{Name, Settings};
@@ -90,6 +92,72 @@ fn begun(
     }
 }
 
+// What is left of an earlier result, with what follows for the edges that only the further paths have, where networks buy from nobody.
+fn known_further(
+    alloc: Global,
+    keys: Keys,
+    top: &Option<List<u32>>,
+    mut earlier: Rest,
+    paths: &DistinctPaths,
+) -> Result<Rest, NoMemory>
+    requires few { length (unwrap_or earlier.givens []) + max_numbers ≤ max_givens }
+    requires begins { BeginsWithEarlier (row_paths paths.now) earlier }
+    ensures known { IfOk result (λ rest. (old : File) → IsRestOf old earlier → BeginsWithPathsOf (row_paths paths.now) old →
+        KnowsFurther top.now (row_paths paths.now) old rest) }
+    ensures few { IfOk result (λ rest. length (unwrap_or rest.givens []) ≤ max_givens) }
+    ensures begins { IfOk result (BeginsWithEarlier (row_paths paths.now)) }
+{
+    let Some(top) = top else {
+        return Ok(earlier);
+    };
+    paths.facts();
+    let first = earlier.fates.len();
+    let mut givens = earlier.givens.take().unwrap_or(List::new(alloc));
+    match bind_top(
+        alloc,
+        keys,
+        top.as_slice(),
+        &[],
+        paths.rows(),
+        first,
+        &mut givens,
+    ) {
+        Ok(()) => {
+            earlier.givens = Some(givens);
+            Ok(earlier)
+        }
+        Err(NoMemory) => {
+            drop(givens);
+            drop(earlier);
+            Err(NoMemory)
+        }
+    }
+}
+
+// The result of paths on top of the earlier one.
+fn result_on(
+    alloc: Global,
+    keys: Keys,
+    settings: &Settings,
+    earlier: Rest,
+    paths: DistinctPaths,
+    counts: Asides,
+) -> Result<ResultFile, NoMemory>
+    requires ratio { settings.now.ratio ≤ max_ratio }
+    requires few { length (unwrap_or earlier.givens []) + max_numbers ≤ max_givens }
+    requires begins { BeginsWithEarlier (row_paths paths) earlier }
+    ensures { IfOk result (λ file. (old : File) → IsRestOf old earlier → BeginsWithPathsOf (row_paths paths) old →
+        IsResultOn settings.now.top settings.now.ratio old paths counts file) }
+{
+    match known_further(alloc, keys, &settings.top, earlier, &paths) {
+        Ok(rest) => result_resumed(alloc, keys, settings.ratio, rest, paths, counts),
+        Err(NoMemory) => {
+            drop(paths);
+            Err(NoMemory)
+        }
+    }
+}
+
 // The result of what the dumps gave on top of the earlier one.
 fn resumed_result(
     alloc: Global,
@@ -99,7 +167,7 @@ fn resumed_result(
     taken: Taken,
 ) -> Result<ResultFile, NoMemory>
     requires ratio { settings.now.ratio ≤ max_ratio }
-    requires few { length (unwrap_or earlier.givens []) ≤ max_givens }
+    requires few { length (unwrap_or earlier.givens []) + max_numbers ≤ max_givens }
     requires begins { BeginsWithEarlier (row_paths taken.table.rows) earlier }
     ensures { IfOk result (λ file. (old : File) → IsRestOf old earlier → BeginsWithPathsOf (row_paths taken.table.rows) old →
         IsResumed settings.now old taken file) }
@@ -111,7 +179,7 @@ fn resumed_result(
     } = taken;
     drop(files);
     match paths_behind(alloc, settings, earlier.fates.len(), table) {
-        Ok(paths) => result_resumed(alloc, keys, settings.ratio, earlier, paths, counts),
+        Ok(paths) => result_on(alloc, keys, settings, earlier, paths, counts),
         Err(NoMemory) => {
             drop(earlier);
             Err(NoMemory)
@@ -128,7 +196,7 @@ fn resumed_text(
     taken: Taken,
 ) -> Result<Output, NoMemory>
     requires ratio { settings.now.ratio ≤ max_ratio }
-    requires few { length (unwrap_or earlier.givens []) ≤ max_givens }
+    requires few { length (unwrap_or earlier.givens []) + max_numbers ≤ max_givens }
     requires begins { BeginsWithEarlier (row_paths taken.table.rows) earlier }
     ensures { IfOk result (λ output. (old : File) → IsRestOf old earlier → BeginsWithPathsOf (row_paths taken.table.rows) old →
         IsOutputOn settings.now old taken (written output)) }
@@ -148,7 +216,7 @@ fn joined_output<H: Shelf>(
     shelf: &mut H,
 ) -> Result<Output, Refusal>
     requires ratio { settings.now.ratio ≤ max_ratio }
-    requires few { length (unwrap_or earlier.givens []) ≤ max_givens }
+    requires few { length (unwrap_or earlier.givens []) + max_numbers ≤ max_givens }
     requires begun { (old : File) × Accepts old × IsBegun settings.now old earlier taken }
     requires dumps { dumps_in settings.now ≡ dumps.now }
     ensures output { IfOk result (λ output. (old : File) → IsBegun settings.now old earlier taken → IfSome (H.files shelf.old) (λ files.
@@ -195,7 +263,7 @@ fn output_on<H: Shelf>(
     requires most { settings.now.max_paths ≤ max_paths }
     requires ratio { settings.now.ratio ≤ max_ratio }
     requires accepted { Accepts earlier }
-    requires few { length (its_givens earlier) ≤ max_givens }
+    requires few { length (its_givens earlier) + max_numbers ≤ max_givens }
     requires read { IsAtEnd (H.left shelf.old) }
     ensures output { IfOk result (λ output. IfSome (H.files shelf.old) (λ files.
         IsOutputOnEarlier settings.now earlier files (written output))) }

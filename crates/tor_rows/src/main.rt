@@ -1,5 +1,5 @@
-// Runs `infer`, `check`, `grade`, `why` and `view` over files and streams in memory, as the rows on standard input say, and prints of each
-// row its name and `ok`, or what differs.
+// Runs `infer`, `check`, `grade`, `rank`, `why` and `view` over files and streams in memory, as the rows on standard input say, and prints
+// of each row its name and `ok`, or what differs.
 //
 // A row is a block of lines between empty lines, and begins with `row NAME`. The first word of a line says what it is; a line that begins
 // with `#` is a comment, of which one begins with `# source:` and says where the row has what it expects from. A block without a name
@@ -37,6 +37,7 @@
 //   tor --list d            infer with these words
 //   torcheck r d            check with these words
 //   torgrade r d            grade with these words
+//   torrank --cones r       rank with these words
 //   torwhy r 10 20          tell with these words
 //   torview r 10            draw with these words
 //   status 0                the status of the run; each run has such a line

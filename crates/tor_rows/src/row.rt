@@ -240,7 +240,9 @@ impl Row {
         }
         match kind {
             "row" => self.begin(alloc, text),
-            "tor" | "torcheck" | "torgrade" | "torwhy" | "torview" => self.begin_run(alloc, line),
+            "tor" | "torcheck" | "torgrade" | "torrank" | "torwhy" | "torview" => {
+                self.begin_run(alloc, line)
+            }
             "common" => self.put_common(alloc, text),
             "keep" => self.building.put(alloc, text, self.written.all()),
             _ => Err(Refused::NotUnderstood),

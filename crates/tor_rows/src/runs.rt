@@ -1,4 +1,4 @@
-//! Runs of `infer`, `check`, `grade`, `why` and `view` in memory.
+//! Runs of `infer`, `check`, `grade`, `rank`, `why` and `view` in memory.
 use crate::conditions::Conditions;
 use crate::endless::Endless;
 use crate::files::Files;
@@ -11,6 +11,7 @@ use tor_run::infer;
 use tor_words::Name;
 use torcheck_run::check;
 use torgrade_run::grade;
+use torrank_run::rank;
 
 /// What is run, and with which words.
 #[derive(Clone, Copy)]
@@ -92,6 +93,17 @@ fn grade_over<H: Shelf>(
     grade(alloc, keys, words, shelf, out, err)
 }
 
+fn rank_over<H: Shelf>(
+    alloc: Global,
+    keys: Keys,
+    words: &List<Name>,
+    shelf: &mut H,
+    out: &mut MemSink,
+    err: &mut MemSink,
+) -> Status {
+    rank(alloc, keys, words, shelf, out, err)
+}
+
 fn why_over<H: Shelf>(
     alloc: Global,
     keys: Keys,
@@ -128,6 +140,7 @@ fn status_of<H: Shelf>(
     match asked.program {
         "torcheck" => check_over(alloc, keys, &words, shelf, out, err),
         "torgrade" => grade_over(alloc, keys, &words, shelf, out, err),
+        "torrank" => rank_over(alloc, keys, &words, shelf, out, err),
         "torwhy" => why_over(alloc, keys, &words, shelf, out, err),
         "torview" => view_over(alloc, keys, &words, shelf, out, err),
         _ => infer_over(alloc, keys, &words, shelf, out, err),

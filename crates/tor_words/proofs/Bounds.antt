@@ -15,7 +15,7 @@ use Rattle.tor_words.specs.declared.task.Counted.{Counted}
 use Rattle.tor_words.specs.declared.task.Made.{Made}
 use Rattle.tor_words.specs.declared.task.Task.{Task}
 use Rattle.tor_words.specs.declared.task.Task.TheVariants as task
-use Rattle.tor_words.specs.Given.{number_in, number_or, order_or_seen, sets_or_cut, task_in, names_in, counting, inferring, sampling, migrating, resuming}
+use Rattle.tor_words.specs.Given.{number_in, number_or, order_or_seen, sets_or_cut, task_in, top_or_none, names_in, counting, inferring, sampling, migrating, resuming}
 use Rattle.tor_words.specs.Given.{job_of, job_in, refuses, settings_in, HasDumps, AreBounded, BoundsLaw, settings_given, unless_fault}
 use Rattle.tor_words.specs.TorCommand.{tor_command}
 
@@ -78,33 +78,34 @@ unrefused false o job is = is
 
 -- ---- settings
 
-abbrev made : Sets → Order → (ratio most : ℕ) → Job → Settings
-made sets order ratio most job = record { job = job; sets = sets; order = order; ratio = ratio; max_paths = most }
+abbrev made : Sets → Order → Option (List ℕ) → (ratio most : ℕ) → Job → Settings
+made sets order top ratio most job = record { job = job; sets = sets; order = order; top = top; ratio = ratio; max_paths = most }
 
 module _ (rows : List Row) (settings : Settings) where
-  of_values : (task : Option Task) (sets : Option Sets) (ratio most : Option ℕ) (order : Option Order) → ((n : ℕ) → ratio ≡ Some n → within 0 1000000 n) → ((n : ℕ) → most ≡ Some n → within 1 8388608 n)
+  of_values : (task : Option Task) (sets : Option Sets) (ratio most : Option ℕ) (order : Option Order) (top : Option (Option (List ℕ))) → ((n : ℕ) → ratio ≡ Some n → within 0 1000000 n) → ((n : ℕ) → most ≡ Some n → within 1 8388608 n)
       → option_and_then (λ t. option_and_then (λ s. option_and_then (λ r.
       option_and_then (λ p.
-      option_and_then (λ o. option_map (made s o r p) (job_in rows t)) order) most) ratio) sets) task ≡ Some settings
+      option_and_then (λ o. option_and_then (λ q. option_map (made s o q r p) (job_in rows t)) top) order) most) ratio) sets) task ≡ Some settings
       → AreBounded settings
-  of_values None sets ratio most order r p e = absurd cc
-  of_values (Some task) None ratio most order r p e = absurd cc
-  of_values (Some task) (Some sets) None most order r p e = absurd cc
-  of_values (Some task) (Some sets) (Some ratio) None order r p e = absurd cc
-  of_values (Some task) (Some sets) (Some ratio) (Some most) None r p e = absurd cc
-  of_values (Some task) (Some sets) (Some ratio) (Some most) (Some order) r p e = by (job_in rows task) refl e
+  of_values None sets ratio most order top r p e = absurd cc
+  of_values (Some task) None ratio most order top r p e = absurd cc
+  of_values (Some task) (Some sets) None most order top r p e = absurd cc
+  of_values (Some task) (Some sets) (Some ratio) None order top r p e = absurd cc
+  of_values (Some task) (Some sets) (Some ratio) (Some most) None top r p e = absurd cc
+  of_values (Some task) (Some sets) (Some ratio) (Some most) (Some order) None r p e = absurd cc
+  of_values (Some task) (Some sets) (Some ratio) (Some most) (Some order) (Some top) r p e = by (job_in rows task) refl e
     where
-      by : (o : Option Job) → job_in rows task ≡ o → option_map (made sets order ratio most) o ≡ Some settings → AreBounded settings
+      by : (o : Option Job) → job_in rows task ≡ o → option_map (made sets order top ratio most) o ≡ Some settings → AreBounded settings
       by None is e = absurd cc
       by (Some job) is e =
-          let same : made sets order ratio most job ≡ settings = cc in
+          let same : made sets order top ratio most job ≡ settings = cc in
           let named = has_dumps rows task (names_in rows) job (unrefused (refuses rows task) (job_of rows task (names_in rows)) job is) in
           subst AreBounded same (record { ratio = (r ratio refl).1; some = (p most refl).0; most = (p most refl).1; named = named })
 
   bounds_in : settings_in rows ≡ Some settings → AreBounded settings
   bounds_in is =
       of_values (task_in rows) (sets_or_cut (first_of (codes "as-sets") rows))
-      (number_or 0 1000000 60 (first_of (codes "ratio") rows)) (number_or 1 8388608 8388608 (first_of (codes "max-paths") rows)) (order_or_seen (first_of (codes "order") rows))
+      (number_or 0 1000000 60 (first_of (codes "ratio") rows)) (number_or 1 8388608 8388608 (first_of (codes "max-paths") rows)) (order_or_seen (first_of (codes "order") rows)) (top_or_none (first_of (codes "top") rows))
       (λ n e. within_or 0 1000000 60 n (first_of (codes "ratio") rows) (omega arith) (omega arith) e)
       (λ n e. within_or 1 8388608 8388608 n (first_of (codes "max-paths") rows) (omega arith) (omega arith) e) is
 

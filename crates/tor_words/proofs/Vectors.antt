@@ -3,13 +3,14 @@ use Rattle.std.proofs.Common.{◌≡◌, [], ◌∷◌, Some, None, true, false,
 use Rattle.std.specs.Prelude.{codes}
 use Rattle.clap.specs.Faults.{flags_fault, walk_fault, defaults_fault}
 use Rattle.clap.specs.Walk.{bundle_met, walked}
+use Rattle.text_fields.specs.Reading.{digit_at, digits_at, u64_at, u32_at}
 use Rattle.path_clean.specs.declared.cleaned.Sets.TheVariants.{Cut, Skip}
 use Rattle.path_order.specs.declared.choice.Order.TheVariants.{Seen, Short}
 use Rattle.tor_words.specs.declared.job.Job.{Job}
 use Rattle.tor_words.specs.declared.job.Job.TheVariants.{Count, Infer, Sample, Migrate, Resume}
 use Rattle.tor_words.specs.declared.settings.Settings.{Settings}
 use Rattle.tor_words.specs.declared.task.Counted.TheVariants.{Listing, Survey}
-use Rattle.tor_words.specs.declared.task.Made.TheVariants.{Result, Ties, Serial}
+use Rattle.tor_words.specs.declared.task.Made.TheVariants.{Result, Ties, Asks, Serial}
 use Rattle.tor_words.specs.Given.{settings_given}
 use Rattle.tor_words.specs.CheckGiven.{check_settings_given}
 use Rattle.tor_words.specs.TorCommand.{tor_command}
@@ -17,7 +18,7 @@ use Rattle.tor_words.specs.TorcheckCommand.{torcheck_command}
 
 -- what is set where no option is named
 abbrev by_default : Job → Settings
-by_default job = record { job = job; sets = Cut; order = Seen; ratio = 60; max_paths = 8388608 }
+by_default job = record { job = job; sets = Cut; order = Seen; top = None; ratio = 60; max_paths = 8388608 }
 
 one_dump : settings_given (codes "d" ∷ []) ≡ Some (by_default (Infer Result None (codes "d" ∷ [])))
 unfolding settings_given tor_command bundle_met walked flags_fault walk_fault defaults_fault
@@ -155,6 +156,31 @@ another_order = refl
 order_twice : settings_given (codes "--order" ∷ codes "short" ∷ codes "--order" ∷ codes "short" ∷ codes "d" ∷ []) ≡ None
 unfolding settings_given tor_command bundle_met walked flags_fault walk_fault defaults_fault
 order_twice = refl
+
+networks_that_buy_from_nobody : settings_given (codes "--top" ∷ codes "701,1299" ∷ codes "d" ∷ []) ≡ Some (record (by_default (Infer Result None (codes "d" ∷ []))) { top = Some (701 ∷ 1299 ∷ []) })
+unfolding settings_given tor_command bundle_met walked flags_fault walk_fault defaults_fault u32_at u64_at digit_at digits_at
+networks_that_buy_from_nobody = refl
+
+networks_behind_an_earlier_result : settings_given (codes "--top=10" ∷ codes "--resume" ∷ codes "r" ∷ codes "d" ∷ [])
+    ≡ Some (record (by_default (Resume (codes "r") (codes "d" ∷ []))) { top = Some (10 ∷ []) })
+unfolding settings_given tor_command bundle_met walked flags_fault walk_fault defaults_fault u32_at u64_at digit_at digits_at
+networks_behind_an_earlier_result = refl
+
+networks_beside_a_list : settings_given (codes "--list" ∷ codes "--top" ∷ codes "10" ∷ codes "d" ∷ []) ≡ None
+unfolding settings_given tor_command bundle_met walked flags_fault walk_fault defaults_fault u32_at u64_at digit_at digits_at
+networks_beside_a_list = refl
+
+no_networks : settings_given (codes "--top" ∷ codes "10,,20" ∷ codes "d" ∷ []) ≡ None
+unfolding settings_given tor_command bundle_met walked flags_fault walk_fault defaults_fault u32_at u64_at digit_at digits_at
+no_networks = refl
+
+what_to_ask : settings_given (codes "--ask" ∷ codes "--order" ∷ codes "short" ∷ codes "d" ∷ []) ≡ Some (record (by_default (Infer Asks None (codes "d" ∷ []))) { order = Short })
+unfolding settings_given tor_command bundle_met walked flags_fault walk_fault defaults_fault
+what_to_ask = refl
+
+asks_beside_ties : settings_given (codes "--ask" ∷ codes "--ties" ∷ codes "d" ∷ []) ≡ None
+unfolding settings_given tor_command bundle_met walked flags_fault walk_fault defaults_fault
+asks_beside_ties = refl
 
 -- ---- words of a check
 

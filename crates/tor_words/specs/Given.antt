@@ -20,6 +20,7 @@ use Rattle.tor_words.specs.declared.task.Made.{Made}
 use Rattle.tor_words.specs.declared.task.Made.TheVariants as made
 use Rattle.tor_words.specs.declared.task.Task.{Task}
 use Rattle.tor_words.specs.declared.task.Task.TheVariants as task
+use Rattle.tor_words.specs.AsLists.{as_list}
 use Rattle.tor_words.specs.TorCommand.{tor_command}
 
 -- ---- values
@@ -51,6 +52,11 @@ order_or_seen None = Some Seen
 order_or_seen (Some text) =
     if bytes_eq text (codes "seen") then Some Seen
     else if bytes_eq text (codes "short") then Some Short else None
+
+-- the networks that buy transit from nobody, if they are named
+abbrev pub top_or_none : Option Text → Option (Option (List ℕ))
+top_or_none None = Some None
+top_or_none (Some text) = option_map Some (as_list text)
 
 -- whether a flag is set
 abbrev pub is_true_text : Option Text → Bool
@@ -84,26 +90,29 @@ alone (task ∷ []) = Some (Some task)
 alone (task ∷ other ∷ tasks) = None
 
 -- what is asked for in place of the result: with `--list` the list of the paths, with `--survey` what the dumps hold, with `--ties` the
--- ties of the open edges, with `--serial1` the labels as lines of serial-1, with `--sample` the summary of the result over a sample,
+-- ties of the open edges, with `--ask` what each of them would settle, with `--serial1` the labels as lines of serial-1, with `--sample` the summary of the result over a sample,
 -- with `--migrate` a result in the text of version 2, and with `--resume` the result of dumps on top of an earlier one
 abbrev pub asked_in : List Row → List Task
 asked_in rows =
     with_asked (has_flag (codes "list") rows) (task.Count Listing)
     (with_asked (has_flag (codes "survey") rows) (task.Count Survey)
     (with_asked (has_flag (codes "ties") rows) (task.Infer made.Ties)
+    (with_asked (has_flag (codes "ask") rows) (task.Infer made.Asks)
     (with_asked (has_flag (codes "serial1") rows) (task.Infer made.Serial)
     (with_asked (has_option (codes "sample") rows) task.Sample
     (with_asked (has_flag (codes "migrate") rows) task.Migrate
-    (with_asked (has_option (codes "resume") rows) task.Resume []))))))
+    (with_asked (has_option (codes "resume") rows) task.Resume [])))))))
 
 -- what is asked for: the result, or something in its place, which is one thing at most
 abbrev pub task_in : List Row → Option Task
 task_in rows = option_map (λ asked. unwrap_or asked (task.Infer made.Result)) (alone (asked_in rows))
 
--- the options that a task refuses, of those that not every task takes: known relationships bind only what is made of dumps alone
+-- the options that a task refuses, of those that not every task takes: a file of known relationships binds only what is made of dumps alone,
+-- and what is known of the top also what is made on top of an earlier result
 abbrev pub refused_by : Task → List Text
 refused_by (task.Infer made) = []
-refused_by _ = codes "given" ∷ []
+refused_by task.Resume = codes "given" ∷ []
+refused_by _ = codes "given" ∷ codes "top" ∷ []
 
 -- whether one of these is there
 abbrev pub refuses : List Row → Task → Bool
@@ -156,8 +165,10 @@ settings_in rows =
     option_and_then (λ ratio.
     option_and_then (λ most.
     option_and_then (λ order.
-    option_map (λ job. record { job = job; sets = sets; order = order; ratio = ratio; max_paths = most })
+    option_and_then (λ top.
+    option_map (λ job. record { job = job; sets = sets; order = order; top = top; ratio = ratio; max_paths = most })
     (job_in rows task))
+    (top_or_none (first_of (codes "top") rows)))
     (order_or_seen (first_of (codes "order") rows)))
     (number_or 1 max_paths max_paths (first_of (codes "max-paths") rows)))
     (number_or 0 max_ratio 60 (first_of (codes "ratio") rows)))

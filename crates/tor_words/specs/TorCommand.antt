@@ -1,6 +1,6 @@
 -- The command line of `tor`, as clap reads it:
--- `tor [--list] [--survey] [--ties] [--serial1] [--as-sets VALUE] [--ratio NUMBER] [--max-paths NUMBER] [--sample NUMBER]
--- [--given FILE] [--migrate] [--resume RESULT] [--order VALUE] [DUMP ..]`.
+-- `tor [--list] [--survey] [--ties] [--ask] [--serial1] [--as-sets VALUE] [--ratio NUMBER] [--max-paths NUMBER] [--sample NUMBER]
+-- [--given FILE] [--migrate] [--resume RESULT] [--order VALUE] [--top LIST] [DUMP ..]`.
 use Rattle.std.specs.Prelude.{[], ◌∷◌, codes}
 use Rattle.clap.specs.Words.{App}
 use Rattle.tor_arena.specs.Limits.{max_paths, max_ratio}
@@ -11,6 +11,7 @@ tor_command = command_of (codes "tor")
     (flag_rule (codes "list")
     ∷ flag_rule (codes "survey")
     ∷ flag_rule (codes "ties")
+    ∷ flag_rule (codes "ask")
     ∷ flag_rule (codes "serial1")
     ∷ option_rule (codes "as-sets")
     ∷ number_rule (codes "ratio") 0 max_ratio
@@ -20,5 +21,6 @@ tor_command = command_of (codes "tor")
     ∷ flag_rule (codes "migrate")
     ∷ option_rule (codes "resume")
     ∷ option_rule (codes "order")
+    ∷ option_rule (codes "top")
     ∷ rest_rule (codes "dump")
     ∷ [])

@@ -19,8 +19,14 @@ const RESUME_HELP: &str =
 const ORDER_HELP: &str =
     "Take the distinct paths as seen, or short: shorter ones first, so that the records' order changes no label [default: seen]";
 
+const TOP_HELP: &str =
+    "Infer where these networks, AS numbers joined by commas, buy transit from nobody: each is over all its other neighbours";
+
+const ASK_HELP: &str =
+    "Write only how many open edges each open edge would settle, if it were known: first the best ones to ask about";
+
 /// The options and the operands of `tor`.
-static TOR: [Entry; 13] = [
+static TOR: [Entry; 15] = [
     Entry::Flag(
         "list",
         "Write only the distinct AS paths, each with its number of routes",
@@ -33,6 +39,7 @@ static TOR: [Entry; 13] = [
         "ties",
         "Write only which open edges go together: whoever settles one settles all of its class",
     ),
+    Entry::Flag("ask", ASK_HELP),
     Entry::Flag(
         "serial1",
         "Write only the labels, as lines provider|customer|-1 and peer|peer|0",
@@ -66,6 +73,7 @@ static TOR: [Entry; 13] = [
     ),
     Entry::Choice("resume", RESUME_HELP),
     Entry::Choice("order", ORDER_HELP),
+    Entry::Choice("top", TOP_HELP),
     Entry::Rest(
         "dump",
         "Uncompressed MRT table dumps, read in this order; /dev/stdin can be named once",

@@ -1,6 +1,7 @@
 //! What the words of a command line ask for.
 #![tactic(auto)]
 
+mod as_lists;
 mod check_settings;
 mod command;
 mod entries;
@@ -11,6 +12,8 @@ mod job;
 mod laws;
 mod matching;
 mod name;
+mod rank_command;
+mod rank_settings;
 mod refused;
 mod settings;
 mod task;
@@ -21,11 +24,13 @@ mod why_command;
 mod why_settings;
 mod words;
 
+pub use as_lists::{as_list, as_list_law};
 pub use check_settings::{CheckSettings, check_settings_of};
 pub use grade_settings::{GradeSettings, grade_settings_of};
 pub use job::Job;
 pub use laws::bounds_law;
 pub use name::Name;
+pub use rank_settings::{RankSettings, RankTask, rank_settings_of};
 pub use refused::WordsRefused;
 pub use settings::{Settings, settings_of};
 pub use task::{Counted, Made};

@@ -2,9 +2,10 @@
 ghost use Rattle.std.specs.Prelude.{◌≡◌, ◌≤◌, IfOk, IfErr, OnErr, Some, None, codes};
 ghost use Rattle.clap.specs.Words.{found_of, rows_of, first_of};
 ghost use Rattle.tor_arena.specs.Limits.{max_paths, max_ratio};
-ghost use Rattle.tor_words.specs.Given.{settings_in, settings_given, task_in, job_in, number_or, order_or_seen, sets_or_cut};
+ghost use Rattle.tor_words.specs.Given.{settings_in, settings_given, task_in, job_in, number_or, order_or_seen, sets_or_cut, top_or_none};
 ghost use Rattle.tor_words.specs.Refused.{IsUsage, SaysUsage};
 
+use crate::as_lists::as_list;
 use crate::command::command;
 use crate::found::{first, names_in};
 use crate::job::{Job, job_of};
@@ -17,7 +18,7 @@ use clap::ArgMatches;
 use path_clean::Sets;
 use path_order::Order;
 use std::alloc::Global;
-use tor_arena::{List, MAX_PATHS, MAX_RATIO};
+use tor_arena::{List, MAX_PATHS, MAX_RATIO, NoMemory};
 
 /// What a run of `tor` is asked for.
 #[derive(Drop)]
@@ -28,6 +29,9 @@ pub struct Settings {
     pub sets: Sets,
     /// In which order distinct paths are taken, but for those of an earlier result that is taken up, which stay as they are.
     pub order: Order,
+    /// The networks that buy transit from nobody, in any order, if they are named: each end of an edge that is one of them is known to be
+    /// over the other end, if that is none.
+    pub top: Option<List<u32>>,
     /// How many times the lesser degree of an edge's two ends the greater one may be at most, so that the edge can become a
     /// peering: from 0, where none can, to 1000000.
     pub ratio: u32,
@@ -45,9 +49,12 @@ struct Choices {
     max_paths: u32,
 }
 
+/// Why words are refused that name no networks.
+const TOP_VALUE: &str = "--top takes AS numbers from 0 to 4294967295, joined by commas\n";
+
 /// Why words are refused where two of them each ask for something in place of the result.
 const ONE_ALONE: &str =
-    "of --list, --survey, --ties, --serial1, --sample, --migrate and --resume one can be given\n";
+    "of --list, --survey, --ties, --ask, --serial1, --sample, --migrate and --resume one can be given\n";
 
 // What is asked for, and the values that no file has; or why none are.
 fn choices_in(matches: &ArgMatches) -> Result<Choices, &'static str>
@@ -112,6 +119,43 @@ fn job_in(alloc: Global, matches: &ArgMatches, task: Task) -> Result<Job, WordsR
     }
 }
 
+// The networks that buy from nobody, if they are named; or why none can be.
+fn top_in(alloc: Global, matches: &ArgMatches) -> Result<Option<List<u32>>, WordsRefused>
+    ensures ok { IfOk result (λ top. top_or_none (first_of (codes "top") (rows_of (found_of matches.now))) ≡ Some top) }
+    ensures err { IfErr result (λ e. IsUsage e → top_or_none (first_of (codes "top") (rows_of (found_of matches.now))) ≡ None) }
+    ensures text { IfErr result SaysUsage }
+{
+    let Some(text) = first(matches, "top") else {
+        return Ok(None);
+    };
+    match as_list(alloc, text) {
+        Ok(Some(ases)) => Ok(Some(ases)),
+        Ok(None) => Err(usage(alloc, TOP_VALUE)),
+        Err(NoMemory) => Err(WordsRefused::NoMemory),
+    }
+}
+
+// The settings of these choices, this job and these networks.
+fn settings_by(choices: Choices, job: Job, top: Option<List<u32>>) -> Settings
+    ensures { result ≡ record {
+      job = job;
+      sets = choices.sets;
+      order = choices.order;
+      top = top;
+      ratio = choices.ratio;
+      max_paths = choices.max_paths;
+    } }
+{
+    Settings {
+        job,
+        sets: choices.sets,
+        order: choices.order,
+        top,
+        ratio: choices.ratio,
+        max_paths: choices.max_paths,
+    }
+}
+
 // The settings that the matches give, if they ask for something and their values are some.
 fn settings_in(alloc: Global, matches: &ArgMatches) -> Result<Settings, WordsRefused>
     ensures ok { IfOk result (λ s. settings_in (rows_of (found_of matches.now)) ≡ Some s) }
@@ -126,13 +170,13 @@ fn settings_in(alloc: Global, matches: &ArgMatches) -> Result<Settings, WordsRef
         Err(why) => return Err(usage(alloc, why)),
     };
     match job_in(alloc, matches, choices.task) {
-        Ok(job) => Ok(Settings {
-            job,
-            sets: choices.sets,
-            order: choices.order,
-            ratio: choices.ratio,
-            max_paths: choices.max_paths,
-        }),
+        Ok(job) => match top_in(alloc, matches) {
+            Ok(top) => Ok(settings_by(choices, job, top)),
+            Err(refused) => {
+                drop(job);
+                Err(refused)
+            }
+        },
         Err(refused) => Err(refused),
     }
 }

@@ -22,6 +22,8 @@ pub enum Made {
     Result,
     /// The ties: which of the open edges stand or fall together.
     Ties,
+    /// The asks: how much of what is open each contract would settle, if somebody knew it.
+    Asks,
     /// The relationships that the result's labels say, as lines of serial-1.
     Serial,
 }
@@ -39,6 +41,9 @@ pub(crate) enum Task {
 /// Why words are refused where known relationships would bind nothing.
 const GIVEN_ALONE: &str =
     "--given takes no --list, no --survey, no --sample, no --migrate and no --resume\n";
+
+/// The same where networks that buy from nobody would bind nothing.
+const TOP_ALONE: &str = "--top takes no --list, no --survey, no --sample and no --migrate\n";
 
 // One thing at most that is asked for, if it is no more than one: this task where it is asked for, and the other things.
 fn with_asked(asked: bool, task: Task, others: Option<Option<Task>>) -> Option<Option<Task>>
@@ -65,6 +70,7 @@ fn alone_in(matches: &ArgMatches) -> Option<Option<Task>>
         Task::Infer(Made::Serial),
         asked,
     );
+    let asked = with_asked(has_flag(matches, "ask"), Task::Infer(Made::Asks), asked);
     let asked = with_asked(has_flag(matches, "ties"), Task::Infer(Made::Ties), asked);
     let asked = with_asked(
         has_flag(matches, "survey"),
@@ -95,9 +101,18 @@ pub(crate) fn refusal_in(matches: &ArgMatches, task: Task) -> Option<&'static st
 {
     match task {
         Task::Infer(_) => None,
-        Task::Count(_) | Task::Sample | Task::Migrate | Task::Resume => {
+        Task::Resume => {
             if has_option(matches, "given") {
                 Some(GIVEN_ALONE)
+            } else {
+                None
+            }
+        }
+        Task::Count(_) | Task::Sample | Task::Migrate => {
+            if has_option(matches, "given") {
+                Some(GIVEN_ALONE)
+            } else if has_option(matches, "top") {
+                Some(TOP_ALONE)
             } else {
                 None
             }

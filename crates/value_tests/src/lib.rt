@@ -21,6 +21,8 @@ mod of_path_table;
 #[cfg(test)]
 mod of_reach_counts;
 #[cfg(test)]
+mod of_top_givens;
+#[cfg(test)]
 mod of_tor_arena;
 #[cfg(test)]
 mod of_tor_digraph;

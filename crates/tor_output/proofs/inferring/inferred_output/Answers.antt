@@ -11,12 +11,12 @@ use Rattle.tor_output.proofs.inferring.inferred_output.Goals as goal
 pub returns-in-Ok-made_under-clause-output : goal.returns-in-Ok-made_under-clause-output
 returns-in-Ok-made_under-clause-output g c =
     let files = g.H.Shelf.files in
-    lemma.made c.args.settings.now (Infer c.args.made c.args.given.now c.args.dumps.now) c.requires.job c.in-Ok.givens (written c.in-Ok-made_under.output)
+    lemma.made c.args.settings.now (Infer c.args.made c.args.given.now c.args.dumps.now) c.requires.job c.in-Ok.said (written c.in-Ok-made_under.output)
     (files c.givens_for.new.shelf) (files c.args.shelf.now) c.in-Ok.ensures.reads_shelf.keeps.files c.in-Ok.ensures.known c.in-Ok-made_under.ensures.output
 
 pub returns-in-Ok-made_under-clause-of_some : goal.returns-in-Ok-made_under-clause-of_some
 returns-in-Ok-made_under-clause-of_some g c =
-    lemma.made_some c.args.settings.now (Infer c.args.made c.args.given.now c.args.dumps.now) c.requires.job c.in-Ok.givens (written c.in-Ok-made_under.output)
+    lemma.made_some c.args.settings.now (Infer c.args.made c.args.given.now c.args.dumps.now) c.requires.job c.in-Ok.said (written c.in-Ok-made_under.output)
     c.in-Ok.ensures.of_some c.in-Ok.ensures.sound c.in-Ok-made_under.ensures.of_some
 
 pub returns-in-Ok-made_under-clause-opens : goal.returns-in-Ok-made_under-clause-opens
@@ -32,7 +32,7 @@ returns-in-Err-made_under-clause-unwritten g c =
     let shelf = g.H.Shelf in
     let keeps = c.in-Ok.ensures.reads_shelf.keeps in
     lemma.dumps_refused c.args.settings.now (Infer c.args.made c.args.given.now c.args.dumps.now) c.requires.job (shelf.files c.givens_for.new.shelf) (shelf.files c.args.shelf.now)
-    (shelf.steady c.args.shelf.now) (shelf.steady c.givens_for.new.shelf) c.in-Ok.givens c.in-Err-made_under.refusal keeps.files keeps.steady c.in-Ok.ensures.known
+    (shelf.steady c.args.shelf.now) (shelf.steady c.givens_for.new.shelf) c.in-Ok.said c.in-Err-made_under.refusal keeps.files keeps.steady c.in-Ok.ensures.known
     c.in-Err-made_under.ensures.refused
 
 pub returns-in-Err-made_under-clause-reach : goal.returns-in-Err-made_under-clause-reach

@@ -1,7 +1,8 @@
 use Rattle.tor_output.proofs.Openings.{past_opens}
-use Rattle.std.proofs.Common.{◌≤◌, List, length, refl, sym, subst, arith}
+use Rattle.std.proofs.Common.{◌≤◌, ◌+◌, List, length, refl, sym, subst, arith}
 use Rattle.std.proofs.lemmas.Result.{IfOk-weaker as asked_if, IfErr-weaker as refused_if}
 use Rattle.relationships.specs.declared.given.Given.{Given}
+use Rattle.tor_arena.specs.Limits.{max_numbers}
 use Rattle.rel_infer.specs.GivenInference.{max_givens}
 use Rattle.rel_infer.proofs.Acceptance.{same_givens}
 use Rattle.tor_output.proofs.Resumings.{joined_reach, past_calm, past_reach, past_refused}
@@ -31,7 +32,7 @@ pub joined_output-requires-clause-few : goal.joined_output-requires-clause-few
 joined_output-requires-clause-few g c =
     let same = same_givens c.args.earlier c.in-Ok.begun.rest.givens (sym c.in-Ok.ensures.begun.left.givens) in
     let few = c.requires.few in
-    subst (λ (gs : List Given). length gs ≤ max_givens) (sym same) few
+    subst (λ (gs : List Given). length gs + max_numbers ≤ max_givens) (sym same) few
 
 pub returns-in-Ok-clause-output : goal.returns-in-Ok-clause-output
 returns-in-Ok-clause-output g c = asked_if c.joined_output.result _ _ (λ output made. made c.args.earlier c.in-Ok.ensures.begun) c.joined_output.ensures.output

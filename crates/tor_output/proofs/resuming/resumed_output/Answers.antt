@@ -1,4 +1,4 @@
-use Rattle.std.proofs.Common.{◌≡◌, Some, refl, ap, sym, subst}
+use Rattle.std.proofs.Common.{◌≡◌, Some, refl, ap, sym, subst, arith}
 use Rattle.tor_words.specs.declared.job.Job.{Job}
 use Rattle.tor_words.specs.declared.job.Job.TheVariants.{Resume}
 use Rattle.tor_words.specs.Given.{dumps_of}
@@ -9,7 +9,9 @@ use Rattle.tor_output.specs.First.{IsTakenUp, first_of}
 use Rattle.tor_output.specs.Opening.{UnwrittenEnds}
 use Rattle.tor_output.specs.Reach.{StopsInReach}
 use Rattle.tor_output.specs.Written.{written}
-use Rattle.tor_output.proofs.FewGivens.{few_givens}
+use Rattle.result_rules.specs.declared.rule.Rule.TheVariants.{HeadSound}
+use Rattle.result_rules.proofs.GivenLines.{name_once}
+use Rattle.top_laws.proofs.Fewness.{few_in_result}
 use Rattle.tor_output.proofs.Openings.{all_behind_first, first_stop}
 use Rattle.tor_output.proofs.Unwritings as lemma
 use Rattle.tor_output.proofs.resuming.resumed_output.Goals as goal
@@ -18,7 +20,10 @@ pub output_on-requires-clause-accepted : goal.output_on-requires-clause-accepted
 output_on-requires-clause-accepted g c = c.in-Ok.ensures.of_some.2.rules
 
 pub output_on-requires-clause-few : goal.output_on-requires-clause-few
-output_on-requires-clause-few g c = let some = c.in-Ok.ensures.of_some in few_givens c.in-Ok.earlier some.0 some.2.text some.1
+output_on-requires-clause-few g c =
+    let some = c.in-Ok.ensures.of_some in
+    let few = few_in_result c.in-Ok.earlier some.0 some.2.text some.1 (name_once c.in-Ok.earlier (some.2.rules HeadSound)) in
+    omega (arith, few)
 
 pub output_on-requires-clause-dumps : goal.output_on-requires-clause-dumps
 output_on-requires-clause-dumps g c = ap dumps_of c.requires.job

@@ -11,8 +11,8 @@ paths_behind-requires c =
     let few = few_begin begun.file c.args.taken.table.rows begun.begins in
     omega (arith, few, fates_left begun.file c.args.earlier begun.left, c.len.ensures)
 
-pub result_resumed-requires-clause-begins : goal.result_resumed-requires-clause-begins
-result_resumed-requires-clause-begins c =
+pub result_on-requires-clause-begins : goal.result_on-requires-clause-begins
+result_on-requires-clause-begins c =
     let begun = c.requires.begins in
     let same = joined_paths c.args.settings.now begun.file c.args.earlier c.args.taken c.len.result c.in-Ok.paths c.len.ensures c.in-Ok.ensures begun.left in
     record {
@@ -25,5 +25,4 @@ result_resumed-requires-clause-begins c =
 
 pub returns-in-Ok : goal.returns-in-Ok
 returns-in-Ok c =
-    resumed_is c.args.settings.now c.args.earlier c.args.taken c.len.result c.in-Ok.paths c.result_resumed.result c.len.ensures c.in-Ok.ensures c.result_resumed.ensures.result
-    c.result_resumed.ensures.continues
+    resumed_is c.args.settings.now c.args.earlier c.args.taken c.len.result c.in-Ok.paths c.result_on.result c.len.ensures c.in-Ok.ensures c.result_on.ensures

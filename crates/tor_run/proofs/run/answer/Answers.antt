@@ -1,4 +1,3 @@
-use Rattle.std.proofs.Common.{inr}
 use Rattle.run_base.proofs.Endings.{refused_words}
 use Rattle.tor_output.specs.Inferring.{inferring}
 use Rattle.tor_run.proofs.run.answer.Goals as goal

@@ -1,0 +1,10 @@
+pub mod Cones
+pub mod Cycles
+pub mod Laws
+pub mod Linking
+pub mod Lots
+pub mod Named
+pub mod Nets
+pub mod Placing
+pub mod Ranks
+pub mod Tallies

@@ -1,0 +1,10 @@
+pub mod Arrivals
+pub mod Askings
+pub mod Counted
+pub mod Forcings
+pub mod Lines
+pub mod Narrowings
+pub mod Ones
+pub mod Opens
+pub mod Uniqueness
+pub mod Vectors

@@ -1,0 +1,4 @@
+pub mod Assembling
+pub mod Behind
+pub mod Explaining
+pub mod Meetings

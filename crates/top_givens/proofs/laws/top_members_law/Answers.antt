@@ -1,0 +1,5 @@
+use Rattle.top_givens.proofs.Members
+use Rattle.top_givens.proofs.laws.top_members_law.Goals as goal
+
+pub returns : goal.returns
+returns c = Members.top_members_law

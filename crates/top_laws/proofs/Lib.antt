@@ -1,0 +1,5 @@
+pub mod BoundLists
+pub mod Fewness
+mod Nobody
+pub mod StillMet
+mod Tops

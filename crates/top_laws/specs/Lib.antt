@@ -1,0 +1,4 @@
+pub mod Bound
+pub mod FewGivens
+pub mod MoreGivens
+pub mod TopResults

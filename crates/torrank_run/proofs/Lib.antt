@@ -1,0 +1,3 @@
+mod Stops
+pub mod Comings
+mod Writings
