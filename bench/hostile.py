@@ -5,8 +5,8 @@ hostile.py TOR TORCHECK [RUNS]
 TOR and TORCHECK are the programs `tor` and `torcheck`; `-` in place of one leaves its rows out. Each row is run RUNS times (3), and says
 the least processor time and the greatest peak memory. A row of TORCHECK also says how the memory compares with the file. A row of the list
 says how the time compares with that on as many random paths. Results are made of two dumps, the second twice the size of the first: a row
-says how much longer TOR takes for that one, how long its texts are and how many open lines they have. It takes a minute. It can't tell of
-less memory than some 14 MiB, which this script has itself.
+says how much longer TOR takes for that one, how long its texts are and how many open lines they have. A row of asks is of two dumps likewise,
+and says too how long the result takes. It takes a minute. It can't tell of less memory than some 14 MiB, which this script has itself.
 """
 
 import os
@@ -226,6 +226,17 @@ def long_paths(count):
     return [list(range(start, start + 500)) for start in range(1000001, 1000001 + 500 * count, 500)]
 
 
+def open_chain(count):
+    """One chain of so many edges: whoever knows that one of them goes up knows it of all before it."""
+    return pieces(list(range(1000001, 1000002 + count)))
+
+
+def open_hub(count):
+    """So many edges on either side of one AS, each of which has a path over it together with some hundred of the other side."""
+    below, above = range(2000001, 2000001 + count), range(3000001, 3000001 + count)
+    return [[low, 1000001, above[(place + step) % count]] for place, low in enumerate(below) for step in range(100)]
+
+
 def dump(paths):
     """A TABLE_DUMP_V2 dump with one route for each path."""
     peers = struct.pack(">IHHB4s4sI", 0, 0, 1, 2, bytes(4), bytes([192, 0, 2, 1]), 10)
@@ -320,6 +331,24 @@ def results(folder, tor, runs):
               f"texts of {lengths[0]:.1f} and {lengths[1]:.1f} MB with {opens[0]:,} and {opens[1]:,} open lines", flush=True)
 
 
+def asks(folder, tor, runs):
+    rows = [
+        ("asks of a chain", open_chain, 50000),
+        ("asks of edges on both sides of a hub", open_hub, 2000),
+    ]
+    for name, paths_of, count in rows:
+        found, plain = [], []
+        for size in (count, 2 * count):
+            file = made(folder, "asked", lambda: dump(paths_of(size)))
+            found.append(measured([tor, "--ask", file], runs))
+            plain.append(measured([tor, file], runs))
+        times = [seconds for seconds, _, _ in found]
+        lines = [text.count(b"ask|") for _, _, text in found]
+        print(f"{name}, {lines[0]:,} and {lines[1]:,} lines: {times[0]:.3f} s and {times[1]:.3f} s, "
+              f"{times[1] / max(times[0], 0.001):.1f} times as long, {found[1][1]:.0f} MiB; "
+              f"results {plain[0][0]:.3f} s and {plain[1][0]:.3f} s, {plain[1][1]:.0f} MiB", flush=True)
+
+
 def main():
     tor, torcheck = sys.argv[1:3]
     runs = int(sys.argv[3]) if len(sys.argv) > 3 else 3
@@ -329,6 +358,7 @@ def main():
         if tor != "-":
             lists(folder, tor, runs)
             results(folder, tor, runs)
+            asks(folder, tor, runs)
 
 
 if __name__ == "__main__":

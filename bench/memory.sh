@@ -185,6 +185,7 @@ refuse "ranks of a bad line" 1 "$torrank" "$work/bad"
 refuse "a telling of a forced edge" 1 "$torwhy" "$samples/three-paths.result.txt" 10 20
 refuse "a telling of an open edge" 1 "$torwhy" "$samples/three-paths.result.txt" 20 30
 refuse "a telling of a path" 1 "$torwhy" --path 3 "$samples/three-paths.result.txt"
+refuse "a telling of neighbours" 1 "$torwhy" "$samples/three-paths.result.txt" AS20
 refuse "a telling of an edge that isn't there" 1 "$torwhy" "$samples/three-paths.result.txt" 10 30
 refuse "a telling of a changed result" 1 "$torwhy" "$work/changed.txt" 10 20
 refuse "a picture" 1 "$torview" "$samples/three-paths.result.txt" 20

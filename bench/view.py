@@ -12,8 +12,14 @@ import sys
 import tempfile
 
 HEAD = ['tor|1', 'sets|cut', 'ratio|60'] + [f'aside|{cause}|0' for cause in 'nopath badsegments confed sets reserved loop short'.split()]
-LEGEND = 'solid: the label is forced; dashed: it is open, as it always is between peers; wider lines: more kept paths'
-DASHES = {'forced': 'none', 'open': '4 3', None: '1 3'}
+STYLE = (
+    'svg{font:11px sans-serif;background:#fff;color-scheme:light dark}text{fill:#111}.t{font-size:16px;font-weight:bold}.b{font-weight:bold}'
+    '.s{font-size:10px}.m{text-anchor:middle}.p{fill:#d6e7f7}.q{fill:#fbeebb}.c{fill:#ecd9e2}'
+    '.f,.o,.d,.k{fill:#fff;stroke:#111;stroke-width:1.5}.d{stroke:#999}.r{fill:none;stroke:#888;shape-rendering:crispEdges}'
+    'polyline.f,polyline.o{fill:none}@media (prefers-color-scheme:dark){svg{background:#111}text{fill:#eee}.p{fill:#15324c}'
+    '.q{fill:#433a12}.c{fill:#452a3b}.f,.o,.d,.k{fill:#111;stroke:#eee}.d{stroke:#888}.r{stroke:#999}}')
+LOOKS = {'forced': ('f', 'none'), 'open': ('o', '4 3'), None: ('d', '1 3')}
+KINDS = (('provider', 'p'), ('peer', 'q'), ('customer', 'c'))
 
 
 def random_result(draws, ases, wanted):
@@ -58,103 +64,129 @@ def groups_of(edges, asked):
     return [in_order(group) for group in groups]
 
 
-def rows(width, boxes):
-    return (boxes + width - 1) // width
+def rows(boxes):
+    return max(1, (boxes + 7) // 8)
 
 
-def column(width, boxes, i):
-    return 5 - min(width, boxes - width * (i // width)) // 2 + i % width
+def cell(boxes, i):
+    """How many boxes the row of box i has, how many stand left of it, and how many rows above."""
+    return min(8, boxes - 8 * (i // 8)), i % 8, i // 8
+
+
+def counted(n, what):
+    return f'{n:,} {what}' + ('' if n == 1 else 's')
 
 
 class Picture:
     def __init__(self, edges, asked, most, depth):
-        self.most, self.lines = most, []
-        providers, peers, customers = groups_of(edges, asked)
-        drawn = self.standings(providers, 0)
-        near = {asked} | {n[0] for n in providers + peers + customers}
-        rank = rows(10, len(self.entries(providers)))
-        posts, links = [], []
-        for _ in range(depth - 1):
-            best = {}
+        self.most, self.lines, self.further = most, [], depth - 1
+        groups = groups_of(edges, asked)
+        floors, near = [groups[0]], {asked} | {n[0] for group in groups for n in group}
+        for _ in range(self.further):
+            drawn, best = {n[0] for n in floors[-1][:most]}, {}
             for edge in edges:
                 customer, provider = upward(edge)
                 if customer in drawn and provider not in near and (provider not in best or best[provider][2] < edge[4]):
                     best[provider] = (provider, edge[3], edge[4])
-            generation = in_order(best.values())
-            above = self.standings(generation, rank)
-            posts += list(zip(self.entries(generation), self.cells(generation, rank)))
-            links += [(drawn[upward(e)[0]], above[upward(e)[1]], e[3], e[4])
-                      for e in edges if upward(e)[0] in drawn and upward(e)[1] in above]
-            rank += rows(10, len(self.entries(generation)))
-            near |= {n[0] for n in generation}
-            drawn = above
-        self.write(asked, (providers, peers, customers), rank, posts, links)
+            floors.append(in_order(best.values()))
+            near |= set(best)
+        self.write(edges, asked, groups, floors)
 
     def entries(self, neighbours):
         left = len(neighbours) - self.most
-        return neighbours[:self.most] + ([(f'{left} more', None, 0)] if left > 0 else [])
+        return neighbours[:self.most] + ([(None, None, left)] if left > 0 else [])
 
-    def cells(self, generation, rank):
-        boxes = len(self.entries(generation))
-        return [(column(10, boxes, i), rank + i // 10) for i in range(boxes)]
+    def text(self, x, y, look, words):
+        self.lines.append(f'<text x="{x}" y="{y}" class="{look}">{words}</text>')
 
-    def standings(self, generation, rank):
-        return dict(zip((n[0] for n in generation[:self.most]), self.cells(generation, rank)))
+    def line(self, points, look):
+        self.lines.append('<polyline points="' + ''.join(f' {x},{y}' for x, y in points) + f'" class="{look}"/>')
 
-    def rect(self, x, y, width, height):
-        self.lines.append(f'<rect x="{x}" y="{y}" width="{width}" height="{height}"/>')
+    def band(self, y, height, look, kind, neighbours, part):
+        self.lines.append(f'<rect x="8" y="{y}" width="{self.width - 16}" height="{height}" class="{look}"/>')
+        self.text(16, y + 20, 'b', kind + 's')
+        self.text(16, y + 36, 's', f'{len(neighbours):,} in all')
+        self.text(16, y + 50, 's', part)
 
-    def text(self, x, y, room, text):
-        self.lines.append(f'<text x="{x}" y="{y}" textLength="{min(room, 7 * len(text))}" fill="black" stroke="none">{text}</text>')
+    def box(self, x, y, entry, kind, is_high=False):
+        number, mark, support = entry
+        look, dashes = ('d', 'none') if is_high and number is not None else LOOKS[mark]
+        paths = counted(support, 'path')
+        if number is None:
+            title, texts = counted(support, 'more ' + kind), [(20, 'm', f'{support:,} more')]
+        else:
+            title = f'AS{number}, provider, up to {paths}' if is_high else f'AS{number}, {kind}, {mark}, {paths}'
+            texts = [(14, 'm', f'AS{number}'), (26, 'm s', paths)]
+        self.lines += ['<g>', f'<title>{title}</title>',
+                       f'<rect x="{x}" y="{y}" width="88" height="32" class="{look}" stroke-dasharray="{dashes}"/>']
+        for down, letters, words in texts:
+            self.text(x + 44, y + down, letters, words)
+        self.lines.append('</g>')
 
-    def box(self, x, y, width, text):
-        self.rect(x, y, width, 24)
-        self.text(x + width // 2, y + 17, width - 8, text)
+    def x(self, count, place):
+        return 144 + 52 * (self.columns - count) + 104 * place
 
-    def line(self, start, trunk, rail, end, support, mark):
-        points = ' '.join(f'{x},{y}' for x, y in (start, (trunk, start[1]), (trunk, rail), (end[0], rail), end))
-        width = 1 if support <= 1 else 2 if support <= self.greatest // 100 else 3
-        self.lines.append(f'<polyline points="{points}" fill="none" stroke-width="{width}" stroke-dasharray="{DASHES[mark]}"/>')
+    def floor_y(self, up):
+        return 76 + 104 * (self.further - up)
 
-    def write(self, asked, groups, rank, posts, links):
-        above, beside, below = map(self.entries, groups)
-        self.greatest = max([e[2] for e in above + beside + below] + [link[3] for link in links] + [0])
-        first_below = rank + max(1, rows(8, len(beside)))
-        height = 72 + 60 * (first_below + rows(10, len(below)))
-
-        def x(c):
-            return 28 + 96 * c
-
-        def y(row):
-            return 72 + 60 * row
-        self.lines.append(f'<svg xmlns="http://www.w3.org/2000/svg" viewBox="0 0 1000 {height}" font-family="sans-serif" font-size="12" '
-                          'text-anchor="middle" fill="white" stroke="black">')
-        self.rect(0, 0, 1000, height)
-        tallies = [f'{len(group)} {name}{"" if len(group) == 1 else "s"} ({sum(n[1] == "forced" for n in group)} forced)'
-                   for group, name in zip(groups, ('provider', 'peer', 'customer'))]
-        self.text(500, 26, 960, f'AS {asked}: ' + ', '.join(tallies))
-        self.text(500, 46, 960, LEGEND)
-        self.box(440, y(rank), 120, f'AS {asked}')
-        for i, (name, mark, support) in enumerate(above):
-            c, row = column(10, len(above), i), rank - 1 - i // 10
-            self.line((500, y(rank)), 500, y(row) + 38, (x(c) + 40, y(row) + 24), support, mark)
-            self.box(x(c), y(row), 80, str(name))
-        for i, (name, mark, support) in enumerate(beside):
-            c, row = column(8, len(beside), i), rank + i // 8
-            c, start, trunk = (c - 1, 440, 418) if c < 5 else (c + 1, 560, 582)
-            self.line((start, y(rank) + 12), trunk, y(row) + 38, (x(c) + 40, y(row) + 24), support, mark)
-            self.box(x(c), y(row), 80, str(name))
-        for i, (name, mark, support) in enumerate(below):
-            c, row = column(10, len(below), i), first_below + i // 10
-            self.line((500, y(rank) + 24), 500, y(row) - 14, (x(c) + 40, y(row)), support, mark)
-            self.box(x(c), y(row), 80, str(name))
-        for (c, low), (d, high), mark, support in links:
-            side, trunk = (x(c) + 80, x(c) + 85) if c < d else (x(c), x(c) - 5)
-            top = y(rank - 1 - high)
-            self.line((side, y(rank - 1 - low) + 12), trunk, top + 28 + 3 * c, (x(d) + 40, top + 24), support, mark)
-        for (name, _, _), (c, high) in posts:
-            self.box(x(c), y(rank - 1 - high), 80, str(name))
+    def write(self, edges, asked, groups, floors):
+        drawn, floors_drawn = [self.entries(group) for group in groups], [self.entries(floor) for floor in floors]
+        is_one_row = self.further > 0
+        in_a_row = [len(drawn[0]) if is_one_row else min(8, len(drawn[0]))] + [min(8, len(group)) for group in drawn[1:]]
+        self.columns = max([3] + in_a_row + [len(floor) for floor in floors_drawn[1:]])
+        heights = [64 if is_one_row else 56 * rows(len(drawn[0])) + 8] + [56 * rows(len(group)) + 8 for group in drawn[1:]]
+        centre = self.floor_y(0) + heights[0] + 24
+        tops = [self.floor_y(0), centre + 56, centre + 56 + heights[1] + 40]
+        self.width, height = 148 + 104 * self.columns, tops[2] + heights[2] + 16
+        forced = [sum(n[1] == 'forced' for n in group) for group in groups]
+        self.head(asked, height, [f'{counted(len(group), kind)} ({n:,} forced)' for group, (kind, _), n in zip(groups, KINDS, forced)])
+        for up, floor in list(enumerate(floors))[1:]:
+            self.band(self.floor_y(up), 64, 'p', 'provider', floor, f'{up + 1} steps up')
+        for group, top, tall, (kind, look), n in zip(groups, tops, heights, KINDS, forced):
+            self.band(top, tall, look, kind, group, f'{n:,} forced')
+        self.middle(asked, centre)
+        for place, entries in enumerate(drawn):
+            self.group(place, entries, centre, tops[place])
+        self.links(edges, floors_drawn)
+        for up, floor in list(enumerate(floors_drawn))[1:]:
+            for i, entry in enumerate(floor):
+                self.box(self.x(len(floor), i), self.floor_y(up) + 12, entry, 'provider', True)
         self.lines.append('</svg>')
+
+    def head(self, asked, height, tallies):
+        self.lines += [f'<svg xmlns="http://www.w3.org/2000/svg" width="{self.width}" height="{height}" viewBox="0 0 {self.width} {height}">',
+                       f'<title>AS{asked}: ' + ', '.join(tallies) + '</title>', f'<style>{STYLE}</style>']
+        self.text(16, 28, 't', f'AS{asked}')
+        self.text(16, 46, 'l', 'solid frame: the label of the edge is forced')
+        self.text(16, 60, 'l', 'dashed frame: it is open, as between peers it always is')
+
+    def middle(self, asked, y):
+        axis = 136 + 52 * self.columns
+        self.lines += ['<g>', f'<title>AS{asked}</title>',
+                       f'<rect x="{axis - 60}" y="{y}" width="120" height="32" class="k" stroke-dasharray="none"/>']
+        self.text(axis, y + 20, 'm b', f'AS{asked}')
+        self.lines.append('</g>')
+
+    def group(self, place, entries, centre, top):
+        for i, entry in enumerate(entries):
+            count, left, row = (len(entries), i, 0) if place == 0 and self.further > 0 else cell(len(entries), i)
+            x, y = self.x(count, left), top + (20 if place else 12) + 56 * row
+            rail, end = (y - 10, y) if place else (y + 42, y + 32)
+            start = 76 + 52 * self.columns, centre + 16
+            self.line([start, (130, start[1]), (130, rail), (x + 44, rail), (x + 44, end)], 'r')
+            self.box(x, y, entry, KINDS[place][0])
+
+    def links(self, edges, floors):
+        places = [{entry[0]: (len(floor), i) for i, entry in enumerate(floor) if entry[0] is not None} for floor in floors]
+        for up in range(self.further):
+            for edge in edges:
+                customer, provider = upward(edge)
+                if customer in places[up] and provider in places[up + 1]:
+                    (count, i), (many, k) = places[up][customer], places[up + 1][provider]
+                    x, y = self.x(count, i) + 4 + 80 * (k + 1) // (many + 1), self.floor_y(up) + 12
+                    end, stop = self.x(many, k) + 4 + 80 * (i + 1) // (count + 1), self.floor_y(up + 1) + 44
+                    look, dashes = LOOKS[edge[3]]
+                    self.line([(x, y), (x, y - 10), (end, stop + 10), (end, stop)], f'{look}" stroke-dasharray="{dashes}')
 
 
 def main(torview, seed, count):

@@ -1,7 +1,9 @@
 pub mod Cells
 pub mod Choosing
+pub mod Commas
 pub mod Drawn
 pub mod Geometry
+pub mod Marks
 pub mod Numbered
 pub mod Numbering
 pub mod Perching

@@ -1,6 +1,6 @@
 -- A tower of generations grows by one.
 use Rattle.std.proofs.Common.{◌≡◌, ℕ, ◌+◌, ◌<◌, List, [], ◌∷◌, ◌++◌, length, get_or, take, append_assoc, refl, sym, ap, ◌∙◌, subst, arith}
-use Rattle.std.specs.Prelude.{Option, Some, None, filter_map, ◌==◌, Contains, Bool, ◌≤◌, ◌*◌}
+use Rattle.std.specs.Prelude.{Option, Some, None, filter_map, ◌==◌, Contains, Bool, ◌≤◌, ◌*◌, max}
 use Rattle.tor_numbers.specs.Slots.{IsInserted}
 use Rattle.drawing.proofs.Numbering.{has_more}
 use Rattle.std.specs.List.{find, cons_option}
@@ -15,7 +15,7 @@ use Rattle.drawing.specs.declared.generation.Ends.{Ends}
 use Rattle.drawing.specs.declared.tower.Tie.{Tie}
 use Rattle.drawing.specs.declared.tower.Tower.{Tower}
 use Rattle.drawing.specs.Generations.{upward, standing_of, provider_with, provider_above, providers_above, tie_with, tie_of, IsGeneration}
-use Rattle.drawing.specs.Generations.{all_numbers, topmost, standings_at, rows_with, perches_at, perches, rising_ties}
+use Rattle.drawing.specs.Generations.{all_numbers, box_count, topmost, standings_at, perches_at, perches, rising_ties, sizes, widest}
 use Rattle.drawing.specs.Tower.{IsTower, IsStacked}
 use Rattle.drawing.specs.Shifted.{HasNumbers}
 use Rattle.drawing.proofs.Choosing.{numbers_of}
@@ -61,20 +61,23 @@ alike_push xs ys zs alike n =
 pub raised : (edges : List EdgeLine) (most : ℕ) (first : List Neighbour) (near : List ℕ) (gs : List (List Neighbour)) (g : List Neighbour) (old middle new : Tower) →
     IsTower edges most first near gs old →
     IsGeneration (all_numbers near gs) (providers_above old.topmost edges) g → HasNumbers middle.nearer (all_numbers near gs ++ numbers_of g) →
-    middle.topmost ≡ old.topmost → middle.rank ≡ old.rank → middle.perches.items ≡ old.perches.items → middle.ties.items ≡ old.ties.items →
+    middle.topmost ≡ old.topmost → middle.rank ≡ old.rank → middle.widest ≡ old.widest → middle.sizes.items ≡ old.sizes.items →
+    middle.perches.items ≡ old.perches.items → middle.ties.items ≡ old.ties.items →
     IsStacked edges most g middle new → IsTower edges most first near (g ∷ gs) new
-raised edges most first near gs g old middle new tower choice has top rank boxes lines stacked =
+raised edges most first near gs g old middle new tower choice has top rank wide many boxes lines stacked =
     let put = stacked.put in
     let alike : FoundAlike new.topmost (topmost most first (g ∷ gs)) =
-    λ n. stacked.topmost_are n ∙ ap (λ r. standing_of n (standings_at most r g)) (rank ∙ tower.rank_is) in
+    λ n. stacked.topmost_are n ∙ ap (λ r. standing_of n (standings_at most (r + 1) g)) (rank ∙ tower.rank_is) in
     let below : FoundAlike middle.topmost (topmost most first gs) = λ n. ap (standing_of n) top ∙ tower.topmost_are n in
     record {
       generations = (tower.generations, subst (λ ns. IsGeneration (all_numbers near gs) ns g) (same_providers old.topmost (topmost most first gs) edges tower.topmost_are) choice);
       nearer = subst (λ xs. HasNumbers xs (all_numbers near gs ++ numbers_of g)) (sym put.nearer) has;
       topmost_are = alike;
-      rank_is = put.rank_is ∙ ap (λ r. r + rows_with most g) (rank ∙ tower.rank_is);
-      perches_are = put.perches_are ∙ ap (λ xs. xs ++ perches_at most middle.rank g) (boxes ∙ tower.perches_are)
-          ∙ ap (λ r. perches most first gs ++ perches_at most r g) (rank ∙ tower.rank_is);
+      rank_is = let r = put.rank_is in let e = rank ∙ tower.rank_is in omega (arith, r, e);
+      widest_is = put.widest_is ∙ ap (λ w. max w (box_count most g)) (wide ∙ tower.widest_is);
+      sizes_are = put.sizes_are ∙ ap (λ xs. xs ++ length g ∷ []) (many ∙ tower.sizes_are);
+      perches_are = put.perches_are ∙ ap (λ xs. xs ++ perches_at most (middle.rank + 1) g) (boxes ∙ tower.perches_are)
+          ∙ ap (λ r. perches most gs ++ perches_at most (r + 1) g) (rank ∙ tower.rank_is);
       ties_are = put.ties_are ∙ ap (λ xs. xs ++ filter_map (tie_of middle.topmost new.topmost) edges) (lines ∙ tower.ties_are)
           ∙ ap (λ xs. rising_ties edges most first gs ++ xs) (same_ties middle.topmost (topmost most first gs) new.topmost (topmost most first (g ∷ gs)) edges below alike);
     }
@@ -94,22 +97,23 @@ pub record IsRaised (edges : List EdgeLine) (most : ℕ) (first : List Neighbour
   pub gs : List (List Neighbour)
   pub many : length gs ≡ turn
   pub is : IsTower edges most first near gs t
-  pub low : t.rank ≤ 201 * turn + 201
+  pub low : t.rank ≤ turn
+  pub wide : t.widest ≤ 2001
 
 pub raised_none : (edges : List EdgeLine) (most : ℕ) (first : List Neighbour) (near : List ℕ) (t : Tower) →
-    IsTower edges most first near [] t → t.rank ≤ 201 → IsRaised edges most first near 0 t
-raised_none edges most first near t is low = record { gs = []; many = refl; is = is; low = omega (arith, low) }
+    IsTower edges most first near [] t → (t.rank ≡ 0) × (t.widest ≡ 0) → IsRaised edges most first near 0 t
+raised_none edges most first near t is (low, wide) = record { gs = []; many = refl; is = is; low = omega (arith, low); wide = omega (arith, wide) }
 
 pub raised_one : (edges : List EdgeLine) (most : ℕ) (first : List Neighbour) (near : List ℕ) (turn : ℕ) (old new : Tower) →
     IsRaised edges most first near turn old →
     ((first : List Neighbour) (near : List ℕ) (gs : List (List Neighbour)) → IsTower edges most first near gs old →
     (g : List Neighbour) × IsTower edges most first near (g ∷ gs) new) →
-    new.rank ≤ old.rank + 201 → IsRaised edges most first near (turn + 1) new
-raised_one edges most first near turn old new x raise more =
+    (new.rank ≤ old.rank + 1) × (new.widest ≤ 2001) → IsRaised edges most first near (turn + 1) new
+raised_one edges most first near turn old new x raise (more, wide) =
     let next = raise first near x.gs x.is in
     let many = x.many in
     let low = x.low in
-    record { gs = next.0 ∷ x.gs; many = omega (arith, many); is = next.1; low = omega (arith, low, more) }
+    record { gs = next.0 ∷ x.gs; many = omega (arith, many); is = next.1; low = omega (arith, low, more); wide = wide }
 
 -- ---- numbers
 

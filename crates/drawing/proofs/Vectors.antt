@@ -1,5 +1,6 @@
 -- Worked examples.
-use Rattle.std.proofs.Common.{◌≡◌, ℕ, List, [], ◌∷◌, refl}
+use Rattle.std.proofs.Common.{◌≡◌, ℕ, List, [], ◌∷◌, codes, refl}
+use Rattle.std.specs.Fmt.{digits}
 use Rattle.relationships.specs.declared.label.Label.{Label}
 use Rattle.relationships.specs.declared.label.Label.TheVariants as label
 use Rattle.relationships.specs.declared.mark.Mark.{Mark}
@@ -8,8 +9,10 @@ use Rattle.result_text.specs.declared.file.EdgeLine.{EdgeLine}
 use Rattle.drawing.specs.declared.group.Group.{Group}
 use Rattle.drawing.specs.declared.page.Plan.{Plan}
 use Rattle.drawing.specs.Neighbours.{neighbours}
-use Rattle.drawing.specs.Page.{spot_of, centre_box, page_height, cell_of, box_in, rising_line}
-use Rattle.drawing.specs.Picture.{width_of}
+use Rattle.drawing.specs.declared.page.Cell.{Cell}
+use Rattle.drawing.specs.declared.drawing.BoxEntry.TheVariants as entry
+use Rattle.drawing.specs.Page.{axis, spot_of, centre_box, page_height, page_width, high_box, slant_of}
+use Rattle.drawing.specs.Svg.{comma_digits, entry_title, thousands}
 
 abbrev edge : ℕ → ℕ → Label → Mark → ℕ → EdgeLine
 edge low high l m support = record { low = low; high = high; label = l; mark = m; support = support }
@@ -29,42 +32,63 @@ peer : neighbours 20 Group.Peers four ≡ record { number = 40; mark = mark.Open
 peer = refl
 
 abbrev small : Plan
-small = record { above = 1; beside = 1; below = 12; further = 0 }
+small = record { columns = 8; above = 1; beside = 2; below = 12; further = 0 }
 
--- the one above stands right of the middle, the twelfth below in the second row
-above : (spot_of small 0).at ≡ record { x = 508; y = 72; width = 80; height = 24 }
-above = refl
+-- eight columns take 980, and the one above stands on the axis, at 552
+width : page_width small ≡ 980
+width = refl
 
-centre : centre_box small ≡ record { x = 440; y = 132; width = 120; height = 24 }
-centre = refl
-
-last : (spot_of small 13).at ≡ record { x = 508; y = 252; width = 80; height = 24 }
-last = refl
-
-height : page_height small ≡ 312
-height = refl
-
-narrow : width_of 500 1 ≡ 1
-narrow = refl
-
-middle : width_of 500 5 ≡ 2
+middle : axis small ≡ 552
 middle = refl
 
-wide : width_of 500 6 ≡ 3
-wide = refl
+above : (spot_of small 0).at ≡ record { x = 508; y = 88; width = 88; height = 32 }
+above = refl
 
--- with a further generation of 12 boxes
+centre : centre_box small ≡ record { x = 492; y = 164; width = 120; height = 32 }
+centre = refl
+
+-- its line runs left to the trunk, and below its row
+above_line : (spot_of small 0).line ≡ record { start_x = 492; start_y = 180; trunk_x = 130; rail_y = 130; end_x = 552; end_y = 120 }
+above_line = refl
+
+-- two peers beside the axis, and the twelfth customer in the second row, with four
+peers : (spot_of small 1).at ≡ record { x = 456; y = 240; width = 88; height = 32 }
+peers = refl
+
+last : (spot_of small 14).at ≡ record { x = 664; y = 400; width = 88; height = 32 }
+last = refl
+
+last_line : (spot_of small 14).line ≡ record { start_x = 492; start_y = 180; trunk_x = 130; rail_y = 390; end_x = 708; end_y = 400 }
+last_line = refl
+
+height : page_height small ≡ 460
+height = refl
+
+-- with two further generations, of two and of three boxes
 abbrev taller : Plan
-taller = record { above = 1; beside = 1; below = 12; further = 2 }
+taller = record { columns = 3; above = 1; beside = 0; below = 1; further = 2 }
 
-first_above : box_in taller (cell_of 12 1 0) ≡ record { x = 28; y = 132; width = 80; height = 24 }
+abbrev cell : ℕ → ℕ → ℕ → Cell
+cell count place row = record { count = count; place = place; row = row }
+
+first_above : high_box taller (cell 2 0 1) ≡ record { x = 196; y = 192; width = 88; height = 32 }
 first_above = refl
 
-last_above : box_in taller (cell_of 12 1 11) ≡ record { x = 508; y = 72; width = 80; height = 24 }
-last_above = refl
+top_last : high_box taller (cell 3 2 2) ≡ record { x = 352; y = 88; width = 88; height = 32 }
+top_last = refl
 
-above_them : (spot_of taller 0).at ≡ record { x = 508; y = 192; width = 80; height = 24 }
+above_them : (spot_of taller 0).at ≡ record { x = 248; y = 296; width = 88; height = 32 }
 above_them = refl
 
-up_left : rising_line taller (cell_of 1 0 0) (cell_of 12 1 0) ≡ record { start_x = 508; start_y = 204; trunk_x = 503; rail_y = 175; end_x = 68; end_y = 156 }
-up_left = refl
+-- the line to the third of three arrives at the first of two places, and leaves at the third of three
+slant : slant_of taller (cell 2 0 1) (cell 3 2 2) ≡ record { start_x = 260; start_y = 192; end_x = 382; end_y = 120 }
+slant = refl
+
+-- commas before each three digits
+digits_of : (comma_digits 6 999 ≡ codes "999") × (comma_digits 6 1000 ≡ codes "1,000") × (comma_digits 6 2385007 ≡ codes "2,385,007")
+unfolding digits
+digits_of = (refl, refl, refl)
+
+neighbour : entry_title Group.Peers (entry.One (record { number = 31946; mark = mark.Open; support = 2385 })) ≡ codes "AS31946, peer, open, 2,385 paths"
+unfolding thousands digits
+neighbour = refl

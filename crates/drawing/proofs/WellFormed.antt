@@ -1,29 +1,34 @@
 -- The text of a picture is well formed.
-use Rattle.std.proofs.Common.{◌≡◌, ℕ, zero, suc, ◌+◌, ◌-◌, ◌/◌, ◌%◌, ◌<◌, Bool, true, false, List, [], ◌∷◌, ◌++◌, length, get_or, take, append_assoc, refl, sym, ap, ◌∙◌, subst, arith}
-use Rattle.std.specs.Prelude.{◌==◌, if◌then◌else◌, flat_map, codes}
+use Rattle.std.proofs.Common.{◌≡◌, ℕ, zero, suc, ◌+◌, ◌-◌, ◌*◌, ◌/◌, ◌%◌, ◌<◌, ◌≤◌, Bool, true, false, List, [], ◌∷◌, ◌++◌, length, get_or, take, append_assoc, refl, sym, ap, ◌∙◌, subst, arith}
+use Rattle.std.specs.Prelude.{◌==◌, if◌then◌else◌, nat_lt, flat_map, codes}
 use Rattle.std.specs.Fmt.{decimal, digits, digits_onto, digit_glyph}
 use Rattle.std.specs.List.{AllByRecursion}
-use Rattle.std.proofs.Math.Nat.{mod-lt}
+use Rattle.std.proofs.Math.Nat.{mod-lt, div-le_of_le-mul, div-add-mod}
 use Rattle.std.proofs.lemmas.List.Folds.{list_all-append}
 use Rattle.std.proofs.lemmas.Grind.{flat_map-append}
-use Rattle.std.proofs.lemmas.List.{take_more, append-nil, map-append}
+use Rattle.std.proofs.lemmas.List.{take_more, append-nil}
 use Rattle.std.proofs.lemmas.List.Concat.{flat_map-cons}
 use Rattle.relationships.specs.declared.mark.Mark.{Mark}
 use Rattle.relationships.specs.declared.mark.Mark.TheVariants as mark
+use Rattle.drawing.specs.declared.group.Group.{Group}
 use Rattle.drawing.specs.declared.group.Tally.{Tally}
 use Rattle.drawing.specs.declared.group.NeighbourCounts.{NeighbourCounts}
 use Rattle.drawing.specs.declared.page.Rect.{Rect}
-use Rattle.drawing.specs.declared.page.PageLine.{PageLine}
+use Rattle.drawing.specs.declared.drawing.Band.{Band}
+use Rattle.drawing.specs.declared.drawing.BandPart.{BandPart}
+use Rattle.drawing.specs.declared.drawing.BandPart.TheVariants as part
 use Rattle.drawing.specs.declared.drawing.BoxEntry.{BoxEntry}
 use Rattle.drawing.specs.declared.drawing.BoxEntry.TheVariants as entry
 use Rattle.drawing.specs.declared.drawing.Item.{Item}
 use Rattle.drawing.specs.declared.drawing.Post.{Post}
 use Rattle.drawing.specs.declared.drawing.RisingLine.{RisingLine}
 use Rattle.drawing.specs.declared.drawing.Drawing.{Drawing}
-use Rattle.drawing.specs.Xml.{Element, is_plain, ArePlain, IsElement, IsDocument, attribute_text, element_text, elements_text}
-use Rattle.drawing.specs.Svg.{rect, point, points, mark_dashes, dashes, polyline, link_element, links_elements, post_elements, posts_elements}
-use Rattle.drawing.specs.Svg.{text_length, text_at, entry_words, asked_words, ending, tally_words, caption_words, legend_words}
-use Rattle.drawing.specs.Svg.{item_elements, items_elements, title_elements, centre_elements, elements_of, extent_words, start_text, page_box, page_attributes, svg_text}
+use Rattle.drawing.specs.Page.{line_points, slant_points}
+use Rattle.drawing.specs.Xml.{Element, Node, SvgAttribute, is_plain, AreAttributes, ArePlain, IsElement, IsNode, IsDocument, element_text, elements_text, node_text, nodes_text, tag_text}
+use Rattle.drawing.specs.Svg.{three_digits, comma_digits, thousands, title, rect_with, frame, point, points, polyline, text_at, mark_class, mark_dashes, entry_class, dashes, post_dashes}
+use Rattle.drawing.specs.Svg.{as_words, ending, paths_words, group_words, mark_words, more_words, entry_title, post_title, heading_words, all_words, left_words, part_words, tally_words}
+use Rattle.drawing.specs.Svg.{caption_words, entry_texts, box_node, item_nodes, link_element, link_nodes, post_nodes, centre_node, centre_texts, band_class, band_nodes, head_nodes, nodes_of}
+use Rattle.drawing.specs.Svg.{extent_words, page_attributes, style_words, svg_text}
 
 -- ---- plain texts
 
@@ -61,38 +66,75 @@ plain_decimal : (n : ℕ) → ArePlain (decimal n)
 unfolding digits
 plain_decimal n = plain_onto 64 n [] refl
 
+-- ---- numbers
+
+plain_code : (d : ℕ) → d < 10 → is_plain (48 + d) ≡ true
+plain_code zero lt = refl
+plain_code (suc zero) lt = refl
+plain_code (suc (suc zero)) lt = refl
+plain_code (suc (suc (suc zero))) lt = refl
+plain_code (suc (suc (suc (suc zero)))) lt = refl
+plain_code (suc (suc (suc (suc (suc zero))))) lt = refl
+plain_code (suc (suc (suc (suc (suc (suc zero)))))) lt = refl
+plain_code (suc (suc (suc (suc (suc (suc (suc zero))))))) lt = refl
+plain_code (suc (suc (suc (suc (suc (suc (suc (suc zero)))))))) lt = refl
+plain_code (suc (suc (suc (suc (suc (suc (suc (suc (suc zero))))))))) lt = refl
+plain_code (suc (suc (suc (suc (suc (suc (suc (suc (suc (suc d)))))))))) lt = absurd (omega arith)
+
+plain_three : (n : ℕ) → n < 1000 → ArePlain (three_digits n)
+plain_three n lt =
+    let high : n / 100 ≤ 9 = div_below n lt in
+    plain_more (48 + n / 100) ((48 + (n / 10) % 10) ∷ (48 + n % 10) ∷ []) (plain_code (n / 100) (omega (arith, high)))
+    (plain_more (48 + (n / 10) % 10) ((48 + n % 10) ∷ []) (plain_code ((n / 10) % 10) (mod-lt (n / 10) (omega arith)))
+    (plain_more (48 + n % 10) [] (plain_code (n % 10) (mod-lt n (omega arith))) refl))
+  where
+    div_below : (n : ℕ) → n < 1000 → n / 100 ≤ 9
+    div_below n lt = omega arith
+
+plain_commas : (k n : ℕ) → ArePlain (comma_digits k n)
+plain_commas zero n = plain_decimal n
+plain_commas (suc k) n =
+    plain_either (nat_lt n 1000) (decimal n) (comma_digits k (n / 1000) ++ 44 ∷ three_digits (n % 1000)) (plain_decimal n)
+    (plain_append (comma_digits k (n / 1000)) (44 ∷ three_digits (n % 1000)) (plain_commas k (n / 1000))
+    (plain_more 44 (three_digits (n % 1000)) refl (plain_three (n % 1000) (mod-lt n (omega arith)))))
+
+plain_thousands : (n : ℕ) → ArePlain (thousands n)
+unfolding thousands
+plain_thousands n = plain_commas 6 n
+
 -- ---- words
 
 plain_point : (x y : ℕ) → ArePlain (point x y)
 unfolding point
-plain_point x y = plain_append (decimal x) (44 ∷ decimal y) (plain_decimal x) (plain_decimal y)
+plain_point x y = plain_append (decimal x) (44 ∷ decimal y) (plain_decimal x) (plain_more 44 (decimal y) refl (plain_decimal y))
 
-plain_points : (l : PageLine) → ArePlain (points l)
+plain_points : (ps : List (ℕ × ℕ)) → ArePlain (points ps)
 unfolding points
-plain_points l =
-    let e : List ℕ = point l.end_x l.end_y in
-    let d : List ℕ = point l.end_x l.rail_y ++ 32 ∷ e in
-    let c : List ℕ = point l.trunk_x l.rail_y ++ 32 ∷ d in
-    let b : List ℕ = point l.trunk_x l.start_y ++ 32 ∷ c in
-    let plain_d : ArePlain d = plain_append (point l.end_x l.rail_y) (32 ∷ e) (plain_point l.end_x l.rail_y) (plain_point l.end_x l.end_y) in
-    let plain_c : ArePlain c = plain_append (point l.trunk_x l.rail_y) (32 ∷ d) (plain_point l.trunk_x l.rail_y) plain_d in
-    let plain_b : ArePlain b = plain_append (point l.trunk_x l.start_y) (32 ∷ c) (plain_point l.trunk_x l.start_y) plain_c in
-    plain_append (point l.start_x l.start_y) (32 ∷ b) (plain_point l.start_x l.start_y) plain_b
+plain_points [] = refl
+plain_points (p ∷ ps) = plain_more 32 (point p.0 p.1 ++ points ps) refl (plain_append (point p.0 p.1) (points ps) (plain_point p.0 p.1) (plain_points ps))
 
-plain_mark : (m : Mark) → ArePlain (mark_dashes m)
-plain_mark mark.Forced = refl
-plain_mark mark.Open = refl
+plain_mark_dashes : (m : Mark) → ArePlain (mark_dashes m)
+plain_mark_dashes mark.Forced = refl
+plain_mark_dashes mark.Open = refl
+
+plain_mark_class : (m : Mark) → ArePlain (mark_class m)
+plain_mark_class mark.Forced = refl
+plain_mark_class mark.Open = refl
 
 plain_dashes : (e : BoxEntry) → ArePlain (dashes e)
-plain_dashes (entry.One n) = plain_mark n.mark
+plain_dashes (entry.One n) = plain_mark_dashes n.mark
 plain_dashes (entry.More n) = refl
 
-plain_entry : (e : BoxEntry) → ArePlain (entry_words e)
-plain_entry (entry.One n) = plain_decimal n.number
-plain_entry (entry.More n) = plain_append (decimal n) (codes " more") (plain_decimal n) refl
+plain_class : (e : BoxEntry) → ArePlain (entry_class e)
+plain_class (entry.One n) = plain_mark_class n.mark
+plain_class (entry.More n) = refl
 
-plain_asked : (a : ℕ) → ArePlain (asked_words a)
-plain_asked a = plain_append (codes "AS ") (decimal a) refl (plain_decimal a)
+plain_post_dashes : (e : BoxEntry) → ArePlain (post_dashes e)
+plain_post_dashes (entry.One n) = refl
+plain_post_dashes (entry.More n) = refl
+
+plain_as : (a : ℕ) → ArePlain (as_words a)
+plain_as a = plain_append (codes "AS") (decimal a) refl (plain_decimal a)
 
 plain_word : (is_one : Bool) → ArePlain (if is_one then [] else codes "s")
 plain_word true = refl
@@ -101,15 +143,52 @@ plain_word false = refl
 plain_ending : (n : ℕ) → ArePlain (ending n)
 plain_ending n = plain_word (n == 1)
 
+plain_paths : (n : ℕ) → ArePlain (paths_words n)
+plain_paths n = plain_append (thousands n) (codes " path" ++ ending n) (plain_thousands n) (plain_append (codes " path") (ending n) refl (plain_ending n))
+
+plain_group : (g : Group) → ArePlain (group_words g)
+plain_group Group.Providers = refl
+plain_group Group.Peers = refl
+plain_group Group.Customers = refl
+
+plain_mark : (m : Mark) → ArePlain (mark_words m)
+plain_mark mark.Forced = refl
+plain_mark mark.Open = refl
+
+plain_more_of : (n : ℕ) (g : Group) → ArePlain (more_words n g)
+plain_more_of n g =
+    plain_append (thousands n) (codes " more " ++ (group_words g ++ ending n)) (plain_thousands n)
+    (plain_append (codes " more ") (group_words g ++ ending n) refl (plain_append (group_words g) (ending n) (plain_group g) (plain_ending n)))
+
+plain_title : (g : Group) (e : BoxEntry) → ArePlain (entry_title g e)
+plain_title g (entry.One n) =
+    let paths : List ℕ = codes ", " ++ paths_words n.support in
+    let marked : List ℕ = mark_words n.mark ++ paths in
+    let grouped : List ℕ = group_words g ++ (codes ", " ++ marked) in
+    let plain_marked : ArePlain marked = plain_append (mark_words n.mark) paths (plain_mark n.mark) (plain_append (codes ", ") (paths_words n.support) refl (plain_paths n.support)) in
+    let plain_grouped : ArePlain grouped = plain_append (group_words g) (codes ", " ++ marked) (plain_group g) (plain_append (codes ", ") marked refl plain_marked) in
+    plain_append (as_words n.number) (codes ", " ++ grouped) (plain_as n.number) (plain_append (codes ", ") grouped refl plain_grouped)
+plain_title g (entry.More n) = plain_more_of n g
+
+plain_post_title : (e : BoxEntry) → ArePlain (post_title e)
+plain_post_title (entry.One n) =
+    plain_append (as_words n.number) (codes ", provider, up to " ++ paths_words n.support) (plain_as n.number)
+    (plain_append (codes ", provider, up to ") (paths_words n.support) refl (plain_paths n.support))
+plain_post_title (entry.More n) = plain_more_of n Group.Providers
+
+plain_part : (p : BandPart) → ArePlain (part_words p)
+plain_part (part.Forced n) = plain_append (thousands n) (codes " forced") (plain_thousands n) refl
+plain_part (part.StepsUp n) = plain_append (thousands n) (codes " steps up") (plain_thousands n) refl
+
 plain_tally : (what : List ℕ) (t : Tally) → ArePlain what → ArePlain (tally_words what t)
 plain_tally what t plain =
-    let last : List ℕ = decimal t.forced ++ codes " forced)" in
+    let last : List ℕ = thousands t.forced ++ codes " forced)" in
     let behind : List ℕ = codes " (" ++ last in
     let back : List ℕ = ending t.all ++ behind in
-    let plain_last : ArePlain last = plain_append (decimal t.forced) (codes " forced)") (plain_decimal t.forced) refl in
+    let plain_last : ArePlain last = plain_append (thousands t.forced) (codes " forced)") (plain_thousands t.forced) refl in
     let plain_behind : ArePlain behind = plain_append (codes " (") last refl plain_last in
     let plain_back : ArePlain back = plain_append (ending t.all) behind (plain_ending t.all) plain_behind in
-    plain_append (decimal t.all) (what ++ back) (plain_decimal t.all) (plain_append what back plain plain_back)
+    plain_append (thousands t.all) (what ++ back) (plain_thousands t.all) (plain_append what back plain plain_back)
 
 plain_caption : (a : ℕ) (c : NeighbourCounts) → ArePlain (caption_words a c)
 plain_caption a c =
@@ -122,139 +201,178 @@ plain_caption a c =
     let plain_first : ArePlain first =
     plain_append (tally_words (codes " provider") c.providers) (codes ", " ++ second) (plain_tally (codes " provider") c.providers refl)
     (plain_append (codes ", ") second refl plain_second) in
-    plain_append (asked_words a) (codes ": " ++ first) (plain_asked a) (plain_append (codes ": ") first refl plain_first)
+    plain_append (as_words a) (codes ": " ++ first) (plain_as a) (plain_append (codes ": ") first refl plain_first)
+
+plain_style : ArePlain style_words
+unfolding style_words
+plain_style = refl
+
+plain_band : (g : Group) → ArePlain (band_class g)
+plain_band Group.Providers = refl
+plain_band Group.Peers = refl
+plain_band Group.Customers = refl
 
 -- ---- elements
 
-rect_is : (b : Rect) → IsElement (rect b)
-rect_is b = record {
+title_is : (words : List ℕ) → ArePlain words → IsElement (title words)
+title_is words plain = record { named = refl; attributes = tt; once = refl; inside = plain }
+
+frame_is : (b : Rect) (class dashed : List ℕ) → ArePlain class → ArePlain dashed → IsElement (frame b class dashed)
+frame_is b class dashed plain plain' = record {
   named = refl;
-  attributes = ((refl, plain_decimal b.x), ((refl, plain_decimal b.y), ((refl, plain_decimal b.width), ((refl, plain_decimal b.height), tt))));
+  attributes = ((refl, plain_decimal b.x), ((refl, plain_decimal b.y), ((refl, plain_decimal b.width), ((refl, plain_decimal b.height), ((refl, plain), ((refl, plain'), tt))))));
   once = refl;
   inside = tt;
 }
 
-polyline_is : (l : PageLine) (width : ℕ) (dashed : List ℕ) → ArePlain dashed → IsElement (polyline l width dashed)
-polyline_is l width dashed plain = record {
+plane_is : (b : Rect) (g : Group) → IsElement (rect_with b (record { name = codes "class"; value = band_class g } ∷ []))
+plane_is b g = record {
   named = refl;
-  attributes = ((refl, plain_points l), ((refl, refl), ((refl, plain_decimal width), ((refl, plain), tt))));
+  attributes = ((refl, plain_decimal b.x), ((refl, plain_decimal b.y), ((refl, plain_decimal b.width), ((refl, plain_decimal b.height), ((refl, plain_band g), tt)))));
   once = refl;
   inside = tt;
 }
 
-text_is : (x y room : ℕ) (text : List ℕ) → ArePlain text → IsElement (text_at x y room text)
-text_is x y room text plain = record {
+text_is : (x y : ℕ) (class words : List ℕ) → ArePlain class → ArePlain words → IsElement (text_at x y class words)
+text_is x y class words plain plain' = record {
   named = refl;
-  attributes = ((refl, plain_decimal x), ((refl, plain_decimal y), ((refl, plain_decimal (text_length room text)), ((refl, refl), ((refl, refl), tt)))));
+  attributes = ((refl, plain_decimal x), ((refl, plain_decimal y), ((refl, plain), tt)));
   once = refl;
-  inside = plain;
+  inside = plain';
 }
 
-all_append : (xs ys : List Element) → AllByRecursion IsElement xs → AllByRecursion IsElement ys → AllByRecursion IsElement (xs ++ ys)
+rail_is : (l : List (ℕ × ℕ)) → IsElement (polyline l (record { name = codes "class"; value = codes "r" } ∷ []))
+rail_is l = record { named = refl; attributes = ((refl, plain_points l), ((refl, refl), tt)); once = refl; inside = tt }
+
+link_is : (l : RisingLine) → IsElement (link_element l)
+link_is l = record {
+  named = refl;
+  attributes = ((refl, plain_points (slant_points l.line)), ((refl, plain_mark_class l.mark), ((refl, plain_mark_dashes l.mark), tt)));
+  once = refl;
+  inside = tt;
+}
+
+texts_are : (b : Rect) (e : BoxEntry) → AllByRecursion IsElement (entry_texts b e)
+texts_are b (entry.One n) = (
+  text_is (b.x + 44) (b.y + 14) (codes "m") (as_words n.number) refl (plain_as n.number),
+  (text_is (b.x + 44) (b.y + 26) (codes "m s") (paths_words n.support) refl (plain_paths n.support), tt),
+)
+texts_are b (entry.More n) =
+    (text_is (b.x + 44) (b.y + 20) (codes "m") (left_words n) refl (plain_append (thousands n) (codes " more") (plain_thousands n) refl), tt)
+
+box_is : (words : List ℕ) (framed : Element) (texts : List Element) → ArePlain words → IsElement framed → AllByRecursion IsElement texts → IsNode (box_node words framed texts)
+box_is words framed texts plain is are = record { named = refl; well_formed = tt; once = refl; each = (title_is words plain, (is, are)) }
+
+all_append : (xs ys : List Node) → AllByRecursion IsNode xs → AllByRecursion IsNode ys → AllByRecursion IsNode (xs ++ ys)
 all_append [] ys a b = b
 all_append (x ∷ xs) ys (e, a) b = (e, all_append xs ys a b)
 
-items_are : (items : List Item) → AllByRecursion IsElement (items_elements items)
-items_are [] = tt
-items_are (i ∷ items) =
-    subst (AllByRecursion IsElement) (sym (flat_map-cons item_elements i items))
-    (all_append (item_elements i) (items_elements items) (
-      polyline_is i.line i.width (dashes i.entry) (plain_dashes i.entry),
-      (rect_is i.at, (text_is (i.at.x + i.at.width / 2) (i.at.y + 17) (i.at.width - 8) (entry_words i.entry) (plain_entry i.entry), tt)),
-    )
-    (items_are items))
+all_flat : {X : Type 0} (f : X → List Node) → ((x : X) → AllByRecursion IsNode (f x)) → (xs : List X) → AllByRecursion IsNode (flat_map f xs)
+all_flat f each [] = tt
+all_flat f each (x ∷ xs) = subst (AllByRecursion IsNode) (sym (flat_map-cons f x xs)) (all_append (f x) (flat_map f xs) (each x) (all_flat f each xs))
 
-posts_are : (posts : List Post) → AllByRecursion IsElement (posts_elements posts)
-posts_are [] = tt
-posts_are (q ∷ posts) =
-    subst (AllByRecursion IsElement) (sym (flat_map-cons post_elements q posts))
-    (all_append (post_elements q) (posts_elements posts)
-    (rect_is q.at, (text_is (q.at.x + q.at.width / 2) (q.at.y + 17) (q.at.width - 8) (entry_words q.entry) (plain_entry q.entry), tt)) (posts_are posts))
+item_is : (i : Item) → AllByRecursion IsNode (item_nodes i)
+item_is i = (
+  rail_is (line_points i.line),
+  (
+    box_is (entry_title i.group i.entry) (frame i.at (entry_class i.entry) (dashes i.entry)) (entry_texts i.at i.entry) (plain_title i.group i.entry)
+        (frame_is i.at (entry_class i.entry) (dashes i.entry) (plain_class i.entry) (plain_dashes i.entry)) (texts_are i.at i.entry),
+    tt,
+  ),
+)
 
-links_are : (links : List RisingLine) → AllByRecursion IsElement (links_elements links)
-links_are [] = tt
-links_are (l ∷ links) = (polyline_is l.line l.width (mark_dashes l.mark) (plain_mark l.mark), links_are links)
+post_is : (q : Post) → AllByRecursion IsNode (post_nodes q)
+post_is q = (
+  box_is (post_title q.entry) (frame q.at (codes "d") (post_dashes q.entry)) (entry_texts q.at q.entry) (plain_post_title q.entry)
+      (frame_is q.at (codes "d") (post_dashes q.entry) refl (plain_post_dashes q.entry)) (texts_are q.at q.entry),
+  tt,
+)
 
-title_is : (d : Drawing) → AllByRecursion IsElement (title_elements d)
-title_is d = (rect_is (page_box d.height), (text_is 500 26 960 (caption_words d.asked d.counts) (plain_caption d.asked d.counts), (text_is 500 46 960 legend_words refl, tt)))
+band_is : (b : Band) → AllByRecursion IsNode (band_nodes b)
+band_is b = (
+  plane_is b.at b.group,
+  (
+    text_is 16 (b.at.y + 20) (codes "b") (heading_words b.group) refl (plain_append (group_words b.group) (codes "s") (plain_group b.group) refl),
+    (
+      text_is 16 (b.at.y + 36) (codes "s") (all_words b.all) refl (plain_append (thousands b.all) (codes " in all") (plain_thousands b.all) refl),
+      (text_is 16 (b.at.y + 50) (codes "s") (part_words b.part) refl (plain_part b.part), tt),
+    ),
+  ),
+)
 
-centre_is : (d : Drawing) → AllByRecursion IsElement (centre_elements d)
-centre_is d = (rect_is d.centre, (text_is (d.centre.x + d.centre.width / 2) (d.centre.y + 17) (d.centre.width - 8) (asked_words d.asked) (plain_asked d.asked), tt))
+head_is : (d : Drawing) → AllByRecursion IsNode (head_nodes d)
+head_is d = (
+  title_is (caption_words d.asked d.counts) (plain_caption d.asked d.counts),
+  (
+    record { named = refl; attributes = tt; once = refl; inside = plain_style },
+    (
+      text_is 16 28 (codes "t") (as_words d.asked) refl (plain_as d.asked),
+      (text_is 16 46 (codes "l") _ refl refl, (text_is 16 60 (codes "l") _ refl refl, tt)),
+    ),
+  ),
+)
 
-abbrev above_elements : Drawing → List Element
-above_elements d = links_elements d.links ++ posts_elements d.posts
+centre_is : (d : Drawing) → IsNode (centre_node d)
+centre_is d =
+    box_is (as_words d.asked) (frame d.centre (codes "k") (codes "none")) (centre_texts d) (plain_as d.asked) (frame_is d.centre (codes "k") (codes "none") refl refl)
+    (text_is (d.centre.x + 60) (d.centre.y + 20) (codes "m b") (as_words d.asked) refl (plain_as d.asked), tt)
+
+plain_extent : (d : Drawing) → ArePlain (extent_words d)
+plain_extent d =
+    plain_append (codes "0 0 ") (decimal d.width ++ 32 ∷ decimal d.height) refl
+    (plain_append (decimal d.width) (32 ∷ decimal d.height) (plain_decimal d.width) (plain_more 32 (decimal d.height) refl (plain_decimal d.height)))
 
 pub picture_well_formed : (d : Drawing) → IsDocument (codes "svg") (svg_text d)
 picture_well_formed d = record {
-  attributes = page_attributes (extent_words d.height);
-  elements = elements_of d;
+  attributes = page_attributes d;
+  nodes = nodes_of d;
   named = refl;
-  well_formed = (
-    (refl, refl),
-    (
-      (refl, plain_append (codes "0 0 1000 ") (decimal d.height) refl (plain_decimal d.height)),
-      ((refl, refl), ((refl, refl), ((refl, refl), ((refl, refl), ((refl, refl), tt))))),
-    ),
-  );
+  well_formed = ((refl, refl), ((refl, plain_decimal d.width), ((refl, plain_decimal d.height), ((refl, plain_extent d), tt))));
   once = refl;
-  each = all_append (title_elements d) (centre_elements d ++ (items_elements d.items ++ above_elements d)) (title_is d)
-      (all_append (centre_elements d) (items_elements d.items ++ above_elements d) (centre_is d)
-      (all_append (items_elements d.items) (above_elements d) (items_are d.items)
-      (all_append (links_elements d.links) (posts_elements d.posts) (links_are d.links) (posts_are d.posts))));
+  each = all_append (head_nodes d) _ (head_is d) (all_append (flat_map band_nodes d.bands) _ (all_flat band_nodes band_is d.bands) (
+    centre_is d,
+    all_append (flat_map item_nodes d.items) _ (all_flat item_nodes item_is d.items)
+        (all_append (flat_map link_nodes d.links) (flat_map post_nodes d.posts) (all_flat link_nodes (λ l. (link_is l, tt)) d.links) (all_flat post_nodes post_is d.posts)),
+  ));
   is = refl;
 }
 
 -- ---- the text in parts
 
-elements_text-append : (xs ys : List Element) → elements_text (xs ++ ys) ≡ elements_text xs ++ elements_text ys
-elements_text-append [] ys = refl
-elements_text-append (x ∷ xs) ys = ap (λ t. element_text x ++ t) (elements_text-append xs ys) ∙ sym (append_assoc (element_text x) (elements_text xs) (elements_text ys))
+nodes_text-append : (xs ys : List Node) → nodes_text (xs ++ ys) ≡ nodes_text xs ++ nodes_text ys
+nodes_text-append [] ys = refl
+nodes_text-append (x ∷ xs) ys = ap (λ t. node_text x ++ t) (nodes_text-append xs ys) ∙ sym (append_assoc (node_text x) (nodes_text xs) (nodes_text ys))
 
--- the text of elements and of others, and then the end
-then_text : (xs ys : List Element) (end : List ℕ) → elements_text (xs ++ ys) ++ end ≡ elements_text xs ++ (elements_text ys ++ end)
-then_text xs ys end = ap (λ t. t ++ end) (elements_text-append xs ys) ∙ append_assoc (elements_text xs) (elements_text ys) end
+-- the text of nodes and of others, and then the end
+then_text : (xs ys : List Node) (end : List ℕ) → nodes_text (xs ++ ys) ++ end ≡ nodes_text xs ++ (nodes_text ys ++ end)
+then_text xs ys end = ap (λ t. t ++ end) (nodes_text-append xs ys) ∙ append_assoc (nodes_text xs) (nodes_text ys) end
 
-pub picture_parts : (d : Drawing) → svg_text d ≡ start_text (extent_words d.height) ++ (elements_text (title_elements d) ++ (elements_text (centre_elements d)
-    ++ (elements_text (items_elements d.items) ++ (elements_text (links_elements d.links) ++ (elements_text (posts_elements d.posts) ++ codes "</svg>\n")))))
+abbrev high_nodes : Drawing → List Node
+high_nodes d = flat_map link_nodes d.links ++ flat_map post_nodes d.posts
+
+pub picture_parts : (d : Drawing) → svg_text d ≡ tag_text (codes "svg") (page_attributes d) ++ (nodes_text (head_nodes d) ++ (nodes_text (flat_map band_nodes d.bands)
+    ++ (node_text (centre_node d) ++ (nodes_text (flat_map item_nodes d.items) ++ (nodes_text (flat_map link_nodes d.links)
+    ++ (nodes_text (flat_map post_nodes d.posts) ++ codes "</svg>\n"))))))
 picture_parts d =
     let end = codes "</svg>\n" in
-    let items = items_elements d.items in
-    ap (λ t. start_text (extent_words d.height) ++ t)
-    (then_text (title_elements d) (centre_elements d ++ (items ++ above_elements d)) end
-    ∙ ap (λ t. elements_text (title_elements d) ++ t) (then_text (centre_elements d) (items ++ above_elements d) end
-    ∙ ap (λ t. elements_text (centre_elements d) ++ t) (then_text items (above_elements d) end
-    ∙ ap (λ t. elements_text items ++ t) (then_text (links_elements d.links) (posts_elements d.posts) end))))
-
--- the first tag, in parts of which only the middle one changes
-pub start_parts : (extent : List ℕ) → start_text extent ≡ codes "<svg xmlns=\"http://www.w3.org/2000/svg\" viewBox=\"" ++ (extent
-    ++ codes "\" font-family=\"sans-serif\" font-size=\"12\" text-anchor=\"middle\" fill=\"white\" stroke=\"black\">\n")
-unfolding attribute_text
-start_parts extent =
-    ap (λ xs. codes "<svg xmlns=\"http://www.w3.org/2000/svg\" viewBox=\"" ++ xs)
-    (append_assoc extent (34 ∷ []) (codes " font-family=\"sans-serif\" font-size=\"12\" text-anchor=\"middle\" fill=\"white\" stroke=\"black\">\n"))
+    let bands = flat_map band_nodes d.bands in
+    let items = flat_map item_nodes d.items in
+    let links = flat_map link_nodes d.links in
+    let posts = flat_map post_nodes d.posts in
+    ap (λ t. tag_text (codes "svg") (page_attributes d) ++ t)
+    (then_text (head_nodes d) (bands ++ (centre_node d ∷ (items ++ high_nodes d))) end
+    ∙ ap (λ t. nodes_text (head_nodes d) ++ t) (then_text bands (centre_node d ∷ (items ++ high_nodes d)) end
+    ∙ ap (λ t. nodes_text bands ++ t) (append_assoc (node_text (centre_node d)) (nodes_text (items ++ high_nodes d)) end
+    ∙ ap (λ t. node_text (centre_node d) ++ t) (then_text items (high_nodes d) end
+    ∙ ap (λ t. nodes_text items ++ t) (then_text links posts end)))))
 
 -- one more
-more_text : {X : Type 0} (f : X → List Element) (xs : List X) (k : ℕ) (d : X) → k < length xs →
-    elements_text (flat_map f (take (k + 1) xs)) ≡ elements_text (flat_map f (take k xs)) ++ elements_text (f (get_or xs k d))
+pub more_text : {X : Type 0} (f : X → List Node) (xs : List X) (k : ℕ) (d : X) → k < length xs →
+    nodes_text (flat_map f (take (k + 1) xs)) ≡ nodes_text (flat_map f (take k xs)) ++ nodes_text (f (get_or xs k d))
 more_text f xs k d lt =
-    ap (λ ys. elements_text (flat_map f ys)) (take_more xs k d lt)
-    ∙ ap elements_text (flat_map-append f (take k xs) (get_or xs k d ∷ []) ∙ ap (λ ys. flat_map f (take k xs) ++ ys) (flat_map_one f (get_or xs k d)))
-    ∙ elements_text-append (flat_map f (take k xs)) (f (get_or xs k d))
+    ap (λ ys. nodes_text (flat_map f ys)) (take_more xs k d lt)
+    ∙ ap nodes_text (flat_map-append f (take k xs) (get_or xs k d ∷ []) ∙ ap (λ ys. flat_map f (take k xs) ++ ys) (flat_map_one f (get_or xs k d)))
+    ∙ nodes_text-append (flat_map f (take k xs)) (f (get_or xs k d))
   where
-    flat_map_one : {X : Type 0} (f : X → List Element) (x : X) → flat_map f (x ∷ []) ≡ f x
+    flat_map_one : {X : Type 0} (f : X → List Node) (x : X) → flat_map f (x ∷ []) ≡ f x
     flat_map_one f x = flat_map-cons f x [] ∙ append-nil (f x)
-
-pub items_text_more : (items : List Item) (k : ℕ) (d : Item) → k < length items →
-    elements_text (items_elements (take (k + 1) items)) ≡ elements_text (items_elements (take k items)) ++ elements_text (item_elements (get_or items k d))
-items_text_more items k d lt = more_text item_elements items k d lt
-
-pub posts_text_more : (posts : List Post) (k : ℕ) (d : Post) → k < length posts →
-    elements_text (posts_elements (take (k + 1) posts)) ≡ elements_text (posts_elements (take k posts)) ++ elements_text (post_elements (get_or posts k d))
-posts_text_more posts k d lt = more_text post_elements posts k d lt
-
-pub links_text_more : (links : List RisingLine) (k : ℕ) (d : RisingLine) → k < length links →
-    elements_text (links_elements (take (k + 1) links)) ≡ elements_text (links_elements (take k links)) ++ elements_text (links_elements (get_or links k d ∷ []))
-links_text_more links k d lt =
-    ap (λ ls. elements_text (links_elements ls)) (take_more links k d lt)
-    ∙ ap elements_text (map-append link_element (take k links) (get_or links k d ∷ []))
-    ∙ elements_text-append (links_elements (take k links)) (links_elements (get_or links k d ∷ []))

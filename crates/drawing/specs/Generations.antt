@@ -1,6 +1,7 @@
 -- The generations above an AS: the first are its providers, and each next one the providers of those of the one before that are drawn,
--- as far as they stand no nearer. The lists of further generations have the topmost one first, as they stand on the page.
-use Rattle.std.specs.Prelude.{◌≡◌, ◌≢◌, ℕ, ◌+◌, ◌≤◌, ◌⊎◌, ◌==◌, List, [], ◌∷◌, ◌++◌, length, map, take}
+-- as far as they stand no nearer. Each stands in
+-- one row. The lists of further generations have the topmost one first, as they stand on the page.
+use Rattle.std.specs.Prelude.{◌≡◌, ◌≢◌, ℕ, ◌+◌, ◌≤◌, ◌⊎◌, ◌==◌, List, [], ◌∷◌, ◌++◌, length, map, max, take}
 use Rattle.std.specs.Prelude.{Option, Some, None, Contains, All, filter_map}
 use Rattle.std.specs.List.{AllPairs, Any, find, enumerate_from}
 use Rattle.relationships.specs.declared.label.Label.TheVariants as label
@@ -12,7 +13,7 @@ use Rattle.drawing.specs.declared.tower.Perch.{Perch}
 use Rattle.drawing.specs.declared.tower.Tie.{Tie}
 use Rattle.drawing.specs.declared.drawing.BoxEntry.{BoxEntry}
 use Rattle.drawing.specs.Neighbours.{IsNoLater}
-use Rattle.drawing.specs.Page.{rows_of, cell_of}
+use Rattle.drawing.specs.Page.{flat_cell}
 use Rattle.drawing.specs.Entries.{box_entries}
 
 -- ---- who stands in a generation
@@ -55,23 +56,20 @@ pub record IsGeneration (nearer : List ℕ) (found ns : List Neighbour) : Type 0
 
 -- ---- where they are drawn
 
--- how many boxes and how many rows a generation has, where so many ASes of it are drawn at most
+-- how many boxes a generation has, where so many ASes of it are drawn at most
 abbrev pub box_count : ℕ → List Neighbour → ℕ
 box_count most ns = length (box_entries most ns)
 
-abbrev pub rows_with : ℕ → List Neighbour → ℕ
-rows_with most ns = rows_of 10 (box_count most ns)
-
--- the ASes of a generation that are drawn, if its first row has this rank
+-- the ASes of a generation that are drawn, if it stands so far above the providers
 abbrev pub standing_at : ℕ → ℕ → ℕ × Neighbour → Standing
-standing_at boxes rank (i, n) = record { number = n.number; cell = cell_of boxes rank i }
+standing_at boxes rank (i, n) = record { number = n.number; cell = flat_cell boxes rank i }
 
 abbrev pub standings_at : ℕ → ℕ → List Neighbour → List Standing
 standings_at most rank ns = map (standing_at (box_count most ns) rank) (enumerate_from 0 (take most ns))
 
 -- its boxes
 abbrev pub perch_at : ℕ → ℕ → ℕ × BoxEntry → Perch
-perch_at boxes rank (i, e) = record { entry = e; cell = cell_of boxes rank i }
+perch_at boxes rank (i, e) = record { entry = e; cell = flat_cell boxes rank i }
 
 abbrev pub perches_at : ℕ → ℕ → List Neighbour → List Perch
 perches_at most rank ns = map (perch_at (box_count most ns) rank) (enumerate_from 0 (box_entries most ns))
@@ -80,7 +78,7 @@ perches_at most rank ns = map (perch_at (box_count most ns) rank) (enumerate_fro
 abbrev pub tie_with : EdgeLine → Option Standing → Option Standing → Option Tie
 tie_with e None _ = None
 tie_with e (Some s) None = None
-tie_with e (Some s) (Some t) = Some (record { lower = s.cell; upper = t.cell; mark = e.mark; support = e.support })
+tie_with e (Some s) (Some t) = Some (record { lower = s.cell; upper = t.cell; mark = e.mark })
 
 abbrev pub tie_of : List Standing → List Standing → EdgeLine → Option Tie
 tie_of lower upper e =
@@ -88,15 +86,10 @@ tie_of lower upper e =
 
 -- ---- all generations, above the providers `first`
 
--- how many rows they have with it, which is the rank of the next row
-abbrev pub rank_above : ℕ → List Neighbour → List (List Neighbour) → ℕ
-rank_above most first [] = rows_with most first
-rank_above most first (g ∷ gs) = rank_above most first gs + rows_with most g
-
 -- those that are drawn of the topmost
 abbrev pub topmost : ℕ → List Neighbour → List (List Neighbour) → List Standing
 topmost most first [] = standings_at most 0 first
-topmost most first (g ∷ gs) = standings_at most (rank_above most first gs) g
+topmost most first (g ∷ gs) = standings_at most (length gs + 1) g
 
 -- the ASes of all of them, behind those near the AS that is asked for
 abbrev pub all_numbers : List ℕ → List (List Neighbour) → List ℕ
@@ -109,10 +102,19 @@ AreGenerations edges most first near [] = Unit {0}
 AreGenerations edges most first near (g ∷ gs) =
     AreGenerations edges most first near gs × IsGeneration (all_numbers near gs) (providers_above (topmost most first gs) edges) g
 
+-- how many ASes each has, the lowest first, and how many boxes the widest
+abbrev pub sizes : List (List Neighbour) → List ℕ
+sizes [] = []
+sizes (g ∷ gs) = sizes gs ++ length g ∷ []
+
+abbrev pub widest : ℕ → List (List Neighbour) → ℕ
+widest most [] = 0
+widest most (g ∷ gs) = max (widest most gs) (box_count most g)
+
 -- their boxes, and the lines of all edges from one to the next
-abbrev pub perches : ℕ → List Neighbour → List (List Neighbour) → List Perch
-perches most first [] = []
-perches most first (g ∷ gs) = perches most first gs ++ perches_at most (rank_above most first gs) g
+abbrev pub perches : ℕ → List (List Neighbour) → List Perch
+perches most [] = []
+perches most (g ∷ gs) = perches most gs ++ perches_at most (length gs + 1) g
 
 abbrev pub rising_ties : List EdgeLine → ℕ → List Neighbour → List (List Neighbour) → List Tie
 rising_ties edges most first [] = []

@@ -1,22 +1,43 @@
--- The text of a picture: SVG 1.1 (W3C), of the elements rect, polyline and text alone.
-use Rattle.std.specs.Prelude.{ℕ, ◌+◌, ◌-◌, ◌*◌, ◌/◌, ◌^◌, ◌<◌, ◌==◌, if◌then◌else◌, min, codes, Some, None}
-use Rattle.std.specs.Prelude.{List, [], ◌∷◌, ◌++◌, length, map, flat_map}
+-- The text of a picture: SVG 1.1 (W3C), of the elements title, style, g, rect, polyline and text alone. Nothing in it runs or is fetched.
+use Rattle.std.specs.Prelude.{◌≡◌, ◌⊎◌, ◌<◌, ◌^◌, ℕ, suc, zero, ◌+◌, ◌*◌, ◌/◌, ◌%◌, ◌==◌, Bool, ◌&&◌, ◌||◌, nat_lt, if◌then◌else◌, codes, Some, None, IsTrue, All}
+use Rattle.std.specs.Prelude.{List, [], ◌∷◌, ◌++◌, flat_map}
 use Rattle.std.specs.Fmt.{decimal}
+use Rattle.std.specs.List.{Any, list_any}
 use Rattle.relationships.specs.declared.mark.Mark.{Mark}
 use Rattle.relationships.specs.declared.mark.Mark.TheVariants as mark
+use Rattle.drawing.specs.declared.group.Group.{Group}
 use Rattle.drawing.specs.declared.group.Tally.{Tally}
 use Rattle.drawing.specs.declared.group.NeighbourCounts.{NeighbourCounts}
 use Rattle.drawing.specs.declared.page.Rect.{Rect}
-use Rattle.drawing.specs.declared.page.PageLine.{PageLine}
+use Rattle.drawing.specs.declared.drawing.Band.{Band}
+use Rattle.drawing.specs.declared.drawing.BandPart.{BandPart}
+use Rattle.drawing.specs.declared.drawing.BandPart.TheVariants as part
 use Rattle.drawing.specs.declared.drawing.BoxEntry.{BoxEntry}
 use Rattle.drawing.specs.declared.drawing.BoxEntry.TheVariants as entry
 use Rattle.drawing.specs.declared.drawing.Item.{Item}
 use Rattle.drawing.specs.declared.drawing.Post.{Post}
 use Rattle.drawing.specs.declared.drawing.RisingLine.{RisingLine}
 use Rattle.drawing.specs.declared.drawing.Drawing.{Drawing}
-use Rattle.drawing.specs.Xml.{SvgAttribute, Element, tag_text, document}
+use Rattle.drawing.specs.declared.printing.Words.{Words}
+use Rattle.drawing.specs.declared.printing.Words.TheVariants as words
+use Rattle.drawing.specs.Page.{line_points, slant_points}
+use Rattle.drawing.specs.Xml.{SvgAttribute, Element, Node, leaf, branch, is_same_name, tag_text, document}
 
--- ---- attributes
+-- ---- numbers
+
+-- three digits
+abbrev pub three_digits : ℕ → List ℕ
+three_digits n = (48 + n / 100) ∷ (48 + (n / 10) % 10) ∷ (48 + n % 10) ∷ []
+
+-- a number with a comma before each three digits, of so many at most
+abbrev pub comma_digits : ℕ → ℕ → List ℕ
+comma_digits zero n = decimal n
+comma_digits (suc k) n = if nat_lt n 1000 then decimal n else comma_digits k (n / 1000) ++ 44 ∷ three_digits (n % 1000)
+
+unfoldable pub thousands : ℕ → List ℕ
+thousands n = comma_digits 6 n
+
+-- ---- elements
 
 abbrev pub word_of : List ℕ → List ℕ → SvgAttribute
 word_of name value = record { name = name; value = value }
@@ -24,150 +45,265 @@ word_of name value = record { name = name; value = value }
 abbrev pub number_attribute : List ℕ → ℕ → SvgAttribute
 number_attribute name n = word_of name (decimal n)
 
--- ---- boxes, with white inside and a black border, as the page has it
+-- what the class says of colours and letters stands in the style
+abbrev pub class_of : List ℕ → SvgAttribute
+class_of class = word_of (codes "class") class
 
-abbrev pub rect : Rect → Element
-rect b = record {
+abbrev pub title : List ℕ → Element
+title words = record { name = codes "title"; attributes = []; inner = Some words }
+
+abbrev pub rect_with : Rect → List SvgAttribute → Element
+rect_with b more = record {
   name = codes "rect";
   attributes = number_attribute (codes "x") b.x ∷ number_attribute (codes "y") b.y ∷
-      number_attribute (codes "width") b.width ∷ number_attribute (codes "height") b.height ∷ [];
+      number_attribute (codes "width") b.width ∷ number_attribute (codes "height") b.height ∷ more;
   inner = None;
 }
 
--- ---- lines
+-- the frame of a box, of which these dashes are drawn
+abbrev pub frame : Rect → List ℕ → List ℕ → Element
+frame b class dashed = rect_with b (class_of class ∷ word_of (codes "stroke-dasharray") dashed ∷ [])
 
 unfoldable pub point : ℕ → ℕ → List ℕ
 point x y = decimal x ++ 44 ∷ decimal y
 
--- the five points between the parts of the line, each behind a space but the first
-unfoldable pub points : PageLine → List ℕ
-points l =
-    point l.start_x l.start_y ++ (32 ∷ (point l.trunk_x l.start_y ++ (32 ∷ (point l.trunk_x l.rail_y ++ (32 ∷ (point l.end_x l.rail_y
-    ++ (32 ∷ point l.end_x l.end_y)))))))
+-- points, each behind a space
+unfoldable pub points : List (ℕ × ℕ) → List ℕ
+points [] = []
+points (p ∷ ps) = 32 ∷ point p.0 p.1 ++ points ps
 
--- solid where the edge is forced, and dashed where it is open
+abbrev pub polyline : List (ℕ × ℕ) → List SvgAttribute → Element
+polyline l more = record { name = codes "polyline"; attributes = word_of (codes "points") (points l) ∷ more; inner = None }
+
+-- a text from a point on, or around it, as its class says
+abbrev pub text_at : ℕ → ℕ → List ℕ → List ℕ → Element
+text_at x y class words = record {
+  name = codes "text";
+  attributes = number_attribute (codes "x") x ∷ number_attribute (codes "y") y ∷ class_of class ∷ [];
+  inner = Some words;
+}
+
+-- ---- marks: solid and dark where the edge is forced, and dashed where it is open
+
+abbrev pub mark_class : Mark → List ℕ
+mark_class m = elim m [ mark.Forced ↦ codes "f" | mark.Open ↦ codes "o" ]
+
 abbrev pub mark_dashes : Mark → List ℕ
 mark_dashes m = elim m [ mark.Forced ↦ codes "none" | mark.Open ↦ codes "4 3" ]
 
--- and dotted where it leads to those that are left out
+-- pale and dotted for those that are left out
+abbrev pub entry_class : BoxEntry → List ℕ
+entry_class (entry.One n) = mark_class n.mark
+entry_class (entry.More n) = codes "d"
+
 abbrev pub dashes : BoxEntry → List ℕ
 dashes (entry.One n) = mark_dashes n.mark
 dashes (entry.More n) = codes "1 3"
 
-abbrev pub polyline : PageLine → ℕ → List ℕ → Element
-polyline l width dashed = record {
-  name = codes "polyline";
-  attributes = word_of (codes "points") (points l) ∷ word_of (codes "fill") (codes "none") ∷ number_attribute (codes "stroke-width") width
-      ∷ word_of (codes "stroke-dasharray") dashed ∷ [];
-  inner = None;
-}
-
--- ---- texts. Each has a length, so that it fits whatever the font: seven units a character, or what there is room for
-
-abbrev pub text_length : ℕ → List ℕ → ℕ
-text_length room text = min room (7 * length text)
-
--- a text around this point
-abbrev pub text_at : ℕ → ℕ → ℕ → List ℕ → Element
-text_at x y room text = record {
-  name = codes "text";
-  attributes = number_attribute (codes "x") x ∷ number_attribute (codes "y") y
-      ∷ number_attribute (codes "textLength") (text_length room text)
-      ∷ word_of (codes "fill") (codes "black") ∷ word_of (codes "stroke") (codes "none") ∷ [];
-  inner = Some text;
-}
-
--- the box lies where numbers of 32 bits reach
-pub record FitsNumbers (b : Rect) : Type 0 where
-  pub x : b.x + b.width < 2 ^ 32
-  pub y : b.y < 2 ^ 32
-
--- a text in a box, with four units left on each side
-abbrev pub text_in : Rect → List ℕ → Element
-text_in b text = text_at (b.x + b.width / 2) (b.y + 17) (b.width - 8) text
+-- a box of a further generation is no edge's
+abbrev pub post_dashes : BoxEntry → List ℕ
+post_dashes (entry.One n) = codes "none"
+post_dashes (entry.More n) = codes "1 3"
 
 -- ---- what is written
 
-abbrev pub entry_words : BoxEntry → List ℕ
-entry_words (entry.One n) = decimal n.number
-entry_words (entry.More n) = decimal n ++ codes " more"
-
-abbrev pub asked_words : ℕ → List ℕ
-asked_words a = codes "AS " ++ decimal a
+abbrev pub as_words : ℕ → List ℕ
+as_words n = codes "AS" ++ decimal n
 
 -- what a word ends with behind a number
 abbrev pub ending : ℕ → List ℕ
 ending n = if n == 1 then [] else codes "s"
 
+abbrev pub paths_words : ℕ → List ℕ
+paths_words n = thousands n ++ (codes " path" ++ ending n)
+
+abbrev pub group_words : Group → List ℕ
+group_words Group.Providers = codes "provider"
+group_words Group.Peers = codes "peer"
+group_words Group.Customers = codes "customer"
+
+abbrev pub mark_words : Mark → List ℕ
+mark_words m = elim m [ mark.Forced ↦ codes "forced" | mark.Open ↦ codes "open" ]
+
+abbrev pub more_words : ℕ → Group → List ℕ
+more_words n g = thousands n ++ (codes " more " ++ (group_words g ++ ending n))
+
+-- the title of a box
+abbrev pub entry_title : Group → BoxEntry → List ℕ
+entry_title g (entry.One n) =
+    as_words n.number ++ (codes ", " ++ (group_words g ++ (codes ", " ++ (mark_words n.mark ++ (codes ", " ++ paths_words n.support)))))
+entry_title g (entry.More n) = more_words n g
+
+-- that of a further generation, whose AS may have several edges to those below
+abbrev pub post_title : BoxEntry → List ℕ
+post_title (entry.One n) = as_words n.number ++ (codes ", provider, up to " ++ paths_words n.support)
+post_title (entry.More n) = more_words n Group.Providers
+
+-- in a box of those that are left out
+abbrev pub left_words : ℕ → List ℕ
+left_words n = thousands n ++ codes " more"
+
+-- the heading of a band, and what is said of some of its ASes
+abbrev pub heading_words : Group → List ℕ
+heading_words g = group_words g ++ codes "s"
+
+abbrev pub all_words : ℕ → List ℕ
+all_words n = thousands n ++ codes " in all"
+
+abbrev pub part_words : BandPart → List ℕ
+part_words (part.Forced n) = thousands n ++ codes " forced"
+part_words (part.StepsUp n) = thousands n ++ codes " steps up"
+
 -- how many there are, of what, and how many of them are forced
 abbrev pub tally_words : List ℕ → Tally → List ℕ
-tally_words what t = decimal t.all ++ (what ++ (ending t.all ++ (codes " (" ++ (decimal t.forced ++ codes " forced)"))))
+tally_words what t =
+    thousands t.all ++ (what ++ (ending t.all ++ (codes " (" ++ (thousands t.forced ++ codes " forced)"))))
 
+-- the title of the picture
 abbrev pub caption_words : ℕ → NeighbourCounts → List ℕ
 caption_words a c =
-    asked_words a ++ (codes ": " ++ (tally_words (codes " provider") c.providers ++ (codes ", " ++ (tally_words (codes " peer") c.peers
+    as_words a ++ (codes ": " ++ (tally_words (codes " provider") c.providers ++ (codes ", " ++ (tally_words (codes " peer") c.peers
     ++ (codes ", " ++ tally_words (codes " customer") c.customers)))))
 
-abbrev pub legend_words : List ℕ
-legend_words = codes "solid: the label is forced; dashed: it is open, as it always is between peers; wider lines: more kept paths"
+-- what may stand in a text or a title
+abbrev pub words_text : Words → List ℕ
+words_text (words.Picture a c) = caption_words a c
+words_text (words.Number n) = as_words n
+words_text (words.Paths n) = paths_words n
+words_text (words.Left n) = left_words n
+words_text (words.Entry g e) = entry_title g e
+words_text (words.Post e) = post_title e
+words_text (words.Heading g) = heading_words g
+words_text (words.All n) = all_words n
+words_text (words.Part p) = part_words p
+words_text words.Solid = codes "solid frame: the label of the edge is forced"
+words_text words.Dashed = codes "dashed frame: it is open, as between peers it always is"
+
+-- ---- boxes
+
+-- an AS with its paths, or how many are left out
+abbrev pub entry_texts : Rect → BoxEntry → List Element
+entry_texts b (entry.One n) =
+    text_at (b.x + 44) (b.y + 14) (codes "m") (as_words n.number) ∷ text_at (b.x + 44) (b.y + 26) (codes "m s") (paths_words n.support) ∷ []
+entry_texts b (entry.More n) = text_at (b.x + 44) (b.y + 20) (codes "m") (left_words n) ∷ []
+
+-- what belongs to one box, of which a browser shows the title
+abbrev pub box_node : List ℕ → Element → List Element → Node
+box_node words framed texts = branch (codes "g") [] (title words ∷ framed ∷ texts)
+
+abbrev pub item_frame : Item → Element
+item_frame i = frame i.at (entry_class i.entry) (dashes i.entry)
+
+-- a neighbour: its line is as thin and pale as all others, and its frame has its mark
+abbrev pub item_nodes : Item → List Node
+item_nodes i =
+    leaf (polyline (line_points i.line) (class_of (codes "r") ∷ []))
+    ∷ box_node (entry_title i.group i.entry) (item_frame i) (entry_texts i.at i.entry) ∷ []
+
+-- an AS of a further generation, and a line to one, which has the mark of its edge
+abbrev pub post_nodes : Post → List Node
+post_nodes q = box_node (post_title q.entry) (frame q.at (codes "d") (post_dashes q.entry)) (entry_texts q.at q.entry) ∷ []
+
+abbrev pub link_element : RisingLine → Element
+link_element l =
+    polyline (slant_points l.line) (class_of (mark_class l.mark) ∷ word_of (codes "stroke-dasharray") (mark_dashes l.mark) ∷ [])
+
+abbrev pub link_nodes : RisingLine → List Node
+link_nodes l = leaf (link_element l) ∷ []
+
+-- the AS that is asked for
+abbrev pub centre_frame : Drawing → Element
+centre_frame d = frame d.centre (codes "k") (codes "none")
+
+abbrev pub centre_texts : Drawing → List Element
+centre_texts d = text_at (d.centre.x + 60) (d.centre.y + 20) (codes "m b") (as_words d.asked) ∷ []
+
+abbrev pub centre_node : Drawing → Node
+centre_node d =
+    box_node (as_words d.asked) (centre_frame d) (centre_texts d)
+
+-- ---- bands
+
+abbrev pub band_class : Group → List ℕ
+band_class Group.Providers = codes "p"
+band_class Group.Peers = codes "q"
+band_class Group.Customers = codes "c"
+
+-- a band with its heading
+abbrev pub band_nodes : Band → List Node
+band_nodes b =
+    leaf (rect_with b.at (class_of (band_class b.group) ∷ []))
+    ∷ leaf (text_at 16 (b.at.y + 20) (codes "b") (heading_words b.group))
+    ∷ leaf (text_at 16 (b.at.y + 36) (codes "s") (all_words b.all))
+    ∷ leaf (text_at 16 (b.at.y + 50) (codes "s") (part_words b.part)) ∷ []
 
 -- ---- the whole
 
-abbrev pub item_elements : Item → List Element
-item_elements i = polyline i.line i.width (dashes i.entry) ∷ rect i.at ∷ text_in i.at (entry_words i.entry) ∷ []
+-- what the classes mean: colours, by day and by night, and letters
+unfoldable pub style_words : List ℕ
+style_words =
+    codes "svg{font:11px sans-serif;background:#fff;color-scheme:light dark}text{fill:#111}.t{font-size:16px;font-weight:bold}.b{font-weight:bold}"
+    ++ (codes ".s{font-size:10px}.m{text-anchor:middle}.p{fill:#d6e7f7}.q{fill:#fbeebb}.c{fill:#ecd9e2}"
+    ++ (codes ".f,.o,.d,.k{fill:#fff;stroke:#111;stroke-width:1.5}.d{stroke:#999}.r{fill:none;stroke:#888;shape-rendering:crispEdges}"
+    ++ (codes "polyline.f,polyline.o{fill:none}@media (prefers-color-scheme:dark){svg{background:#111}text{fill:#eee}.p{fill:#15324c}"
+    ++ codes ".q{fill:#433a12}.c{fill:#452a3b}.f,.o,.d,.k{fill:#111;stroke:#eee}.d{stroke:#888}.r{stroke:#999}}")))
 
-abbrev pub items_elements : List Item → List Element
-items_elements items = flat_map item_elements items
+-- the title, the style, and what the frames mean
+abbrev pub head_nodes : Drawing → List Node
+head_nodes d =
+    leaf (title (caption_words d.asked d.counts))
+    ∷ leaf (record { name = codes "style"; attributes = []; inner = Some style_words })
+    ∷ leaf (text_at 16 28 (codes "t") (as_words d.asked))
+    ∷ leaf (text_at 16 46 (codes "l") (words_text words.Solid))
+    ∷ leaf (text_at 16 60 (codes "l") (words_text words.Dashed)) ∷ []
 
--- a box of a further generation
-abbrev pub post_elements : Post → List Element
-post_elements q = rect q.at ∷ text_in q.at (entry_words q.entry) ∷ []
-
-abbrev pub posts_elements : List Post → List Element
-posts_elements posts = flat_map post_elements posts
-
--- a line to one
-abbrev pub link_element : RisingLine → Element
-link_element l = polyline l.line l.width (mark_dashes l.mark)
-
-abbrev pub links_elements : List RisingLine → List Element
-links_elements links = map link_element links
-
-abbrev pub page_box : ℕ → Rect
-page_box height = record { x = 0; y = 0; width = 1000; height = height }
-
--- the frame of the page, and the caption
-abbrev pub title_elements : Drawing → List Element
-title_elements d =
-    rect (page_box d.height) ∷ text_at 500 26 960 (caption_words d.asked d.counts) ∷ text_at 500 46 960 legend_words ∷ []
-
--- the box in the centre
-abbrev pub centre_elements : Drawing → List Element
-centre_elements d = rect d.centre ∷ text_in d.centre (asked_words d.asked) ∷ []
-
-abbrev pub elements_of : Drawing → List Element
-elements_of d = title_elements d ++ (centre_elements d ++ (items_elements d.items ++ (links_elements d.links ++ posts_elements d.posts)))
+abbrev pub nodes_of : Drawing → List Node
+nodes_of d =
+    head_nodes d ++ (flat_map band_nodes d.bands ++ (centre_node d ∷ (flat_map item_nodes d.items
+    ++ (flat_map link_nodes d.links ++ flat_map post_nodes d.posts))))
 
 -- what part of the plane the page shows
-abbrev pub extent_words : ℕ → List ℕ
-extent_words height = codes "0 0 1000 " ++ decimal height
+abbrev pub extent_words : Drawing → List ℕ
+extent_words d = codes "0 0 " ++ (decimal d.width ++ 32 ∷ decimal d.height)
 
--- how letters, boxes and lines look, where they say nothing else
-abbrev pub style_attributes : List SvgAttribute
-style_attributes =
-    word_of (codes "font-family") (codes "sans-serif")
-    ∷ word_of (codes "font-size") (codes "12")
-    ∷ word_of (codes "text-anchor") (codes "middle")
-    ∷ word_of (codes "fill") (codes "white")
-    ∷ word_of (codes "stroke") (codes "black")
-    ∷ []
-
-abbrev pub page_attributes : List ℕ → List SvgAttribute
-page_attributes extent = word_of (codes "xmlns") (codes "http://www.w3.org/2000/svg") ∷ word_of (codes "viewBox") extent ∷ style_attributes
-
--- the first tag
-abbrev pub start_text : List ℕ → List ℕ
-start_text extent = tag_text (codes "svg") (page_attributes extent)
+abbrev pub page_attributes : Drawing → List SvgAttribute
+page_attributes d =
+    word_of (codes "xmlns") (codes "http://www.w3.org/2000/svg") ∷ number_attribute (codes "width") d.width
+    ∷ number_attribute (codes "height") d.height ∷ word_of (codes "viewBox") (extent_words d) ∷ []
 
 abbrev pub svg_text : Drawing → List ℕ
-svg_text d = document (codes "svg") (page_attributes (extent_words d.height)) (elements_of d)
+svg_text d = document (codes "svg") (page_attributes d) (nodes_of d)
+
+-- the page lies where numbers of 32 bits reach
+pub record IsLow (d : Drawing) : Type 0 where
+  pub wide : d.width < 2 ^ 32
+  pub high : d.height < 2 ^ 32
+
+-- and a box
+pub record FitsNumbers (b : Rect) : Type 0 where
+  pub x : b.x < 2 ^ 32
+  pub y : b.y < 2 ^ 32
+
+-- ---- what can't be taken for certain
+
+-- its class makes it solid and dark
+abbrev pub is_solid : Element → Bool
+is_solid e = list_any (λ a. is_same_name a.name (codes "class") && (is_same_name a.value (codes "f") || is_same_name a.value (codes "k"))) e.attributes
+
+abbrev pub elements_in : Node → List Element
+elements_in (leaf e) = e ∷ []
+elements_in (branch name attributes elements) = elements
+
+abbrev pub is_forced_entry : BoxEntry → Type 0
+is_forced_entry (entry.One n) = n.mark ≡ mark.Forced
+is_forced_entry (entry.More n) = ⊥
+
+-- the frame of a neighbour, or the line, of a forced edge; or the frame of the centre, which is no edge's
+abbrev pub IsOfForced : Drawing → Element → Type 0
+IsOfForced d e =
+    Any (λ i. is_forced_entry i.entry × (e ≡ item_frame i)) d.items
+    ⊎ (Any (λ l. (l.mark ≡ mark.Forced) × (e ≡ link_element l)) d.links ⊎ (e ≡ centre_frame d))
+
+-- whatever is solid and dark in the picture
+abbrev pub ShowsMarks : Drawing → Type 0
+ShowsMarks d = All (λ n. All (λ e. IsTrue (is_solid e) → IsOfForced d e) (elements_in n)) (nodes_of d)

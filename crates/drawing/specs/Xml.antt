@@ -1,5 +1,5 @@
--- The few forms of XML (W3C, Extensible Markup Language 1.0, sections 2.3, 2.4 and 3.1) that the text of a picture has: one element that
--- holds others, which hold nothing or plain text.
+-- The few forms of XML (W3C, Extensible Markup Language 1.0, sections 2.3, 2.4 and 3.1) that the text of a picture has: elements that hold
+-- nothing, or plain text, or others such.
 use Rattle.std.specs.Prelude.{◌≡◌, ℕ, Bool, true, false, not, ◌&&◌, ◌||◌, ◌==◌, nat_le, List, []}
 use Rattle.std.specs.Prelude.{◌∷◌, ◌++◌, codes, Option, Some, None, IsTrue}
 use Rattle.std.specs.List.{AllByRecursion, list_all}
@@ -14,6 +14,11 @@ pub record Element : Type 0 where
   pub name : List ℕ
   pub attributes : List SvgAttribute
   pub inner : Option (List ℕ)
+
+-- one such element, or one with this name and these attributes that holds some
+pub data Node : Type 0 where
+  leaf : Element → Node
+  branch : List ℕ → List SvgAttribute → List Element → Node
 
 -- ---- what is well formed
 
@@ -56,6 +61,16 @@ pub record IsElement (e : Element) : Type 0 where
   pub once : IsTrue (are_named_once e.attributes)
   pub inside : IsPlainInside e.inner
 
+pub record IsBranch (name : List ℕ) (attributes : List SvgAttribute) (elements : List Element) : Type 0 where
+  pub named : IsTrue (is_name name)
+  pub well_formed : AreAttributes attributes
+  pub once : IsTrue (are_named_once attributes)
+  pub each : AllByRecursion IsElement elements
+
+abbrev pub IsNode : Node → Type 0
+IsNode (leaf e) = IsElement e
+IsNode (branch name attributes elements) = IsBranch name attributes elements
+
 -- ---- texts
 
 unfoldable pub attribute_text : SvgAttribute → List ℕ
@@ -78,19 +93,30 @@ abbrev pub elements_text : List Element → List ℕ
 elements_text [] = []
 elements_text (e ∷ elements) = element_text e ++ elements_text elements
 
--- an element of this name with these attributes, and these elements in it
+-- the first tag of an element of this name with these attributes, and its last one
 abbrev pub tag_text : List ℕ → List SvgAttribute → List ℕ
 tag_text name attributes = 60 ∷ (name ++ with_attributes attributes (codes ">\n"))
 
-abbrev pub document : List ℕ → List SvgAttribute → List Element → List ℕ
-document name attributes elements = tag_text name attributes ++ (elements_text elements ++ (codes "</" ++ (name ++ codes ">\n")))
+abbrev pub tag_end : List ℕ → List ℕ
+tag_end name = codes "</" ++ (name ++ codes ">\n")
+
+abbrev pub node_text : Node → List ℕ
+node_text (leaf e) = element_text e
+node_text (branch name attributes elements) = tag_text name attributes ++ (elements_text elements ++ tag_end name)
+
+abbrev pub nodes_text : List Node → List ℕ
+nodes_text [] = []
+nodes_text (n ∷ nodes) = node_text n ++ nodes_text nodes
+
+abbrev pub document : List ℕ → List SvgAttribute → List Node → List ℕ
+document name attributes nodes = tag_text name attributes ++ (nodes_text nodes ++ tag_end name)
 
 -- the text is a well-formed element of this name that holds well-formed elements, and each name stands once where it may
 pub record IsDocument (name text : List ℕ) : Type 0 where
   pub attributes : List SvgAttribute
-  pub elements : List Element
+  pub nodes : List Node
   pub named : IsTrue (is_name name)
   pub well_formed : AreAttributes attributes
   pub once : IsTrue (are_named_once attributes)
-  pub each : AllByRecursion IsElement elements
-  pub is : text ≡ document name attributes elements
+  pub each : AllByRecursion IsNode nodes
+  pub is : text ≡ document name attributes nodes

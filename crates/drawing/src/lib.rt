@@ -12,8 +12,9 @@ mod printing;
 mod standings;
 mod tower;
 
-pub use drawing::{BoxEntry, Drawing, Item, Post, RisingLine, draw_neighbours};
+pub use drawing::{Band, BandPart, BoxEntry, Drawing, Item, Post, RisingLine, draw_neighbours};
 pub use group::{Group, Neighbour, NeighbourCounts, Tally};
 pub use laws::picture_law;
-pub use page::{PageLine, Rect, Spot};
+pub use neighbours::sorted_neighbours;
+pub use page::{PageLine, Rect, Slant, Spot};
 pub use printing::svg_of;

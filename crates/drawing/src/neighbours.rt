@@ -67,8 +67,9 @@ pub(crate) fn sort_neighbours(neighbours: &mut Vec<Neighbour>)
     neighbours.sort_unstable_by_key(|neighbour| sort_key(neighbour));
 }
 
-/// The neighbours in the group in their order. The only error is that memory ran out.
-pub(crate) fn ordered(
+/// The neighbours of an AS in the group, as these edges say: those with the greatest support first, and at equal support those with the
+/// least number. The only error is that memory ran out.
+pub fn sorted_neighbours(
     alloc: Global,
     edges: &[EdgeLine],
     asked: u32,

@@ -1,16 +1,17 @@
-//! Where boxes and lines stand on the page. All lengths are whole numbers, in units of which the page is 1000 wide; x grows to the right
-//! and y downwards, from the upper left corner.
+//! Where boxes, bands and lines stand on the page. All lengths are whole numbers of pixels; x grows to the right and y downwards, from the
+//! upper left corner.
 //!
-//! Depth ends at 8 and a group or generation at 2,000, so that all numbers of a page fit 32 bits. Lines between generations leave at a
-//! side of a box, so they share no rail with those of the neighbours.
-ghost use Rattle.std.specs.Prelude.{◌≡◌, ◌+◌, ◌^◌, ◌<◌, ◌≤◌};
-ghost use Rattle.drawing.specs.Page.{rows_of, centre_row, first_row_below, row_y, column_x, box_at, centre_box, page_height};
-ghost use Rattle.drawing.specs.Page.{column_of, column_beside, line_up, line_beside, line_down, spot_above};
-ghost use Rattle.drawing.specs.Page.{spot_beside, spot_below, spot_of};
-ghost use Rattle.drawing.specs.Page.{cell_of, cell_row, box_in, rising_line};
+//! Depth ends at 8 and a group or generation at 2,000, so that all numbers of a page fit 32 bits. The lines to the neighbours share one
+//! trunk and say nothing of marks; those between generations are alone from end to end.
+ghost use Rattle.std.specs.Prelude.{◌≡◌, ◌+◌, ◌-◌, ◌*◌, ◌^◌, ◌<◌, ◌≤◌};
+ghost use Rattle.drawing.specs.Page.{rows_of, cell_of, flat_cell, is_one_row, rows_above, cell_above, band_height, band_y, centre_y};
+ghost use Rattle.drawing.specs.Page.{peers_y, customers_y, page_height, page_width, band_at, axis, centre_box, box_at, high_box};
+ghost use Rattle.drawing.specs.Page.{line_up, line_down, place_on, slant_of, spot_above, spot_beside, spot_below, spot_of};
 ghost use Rattle.drawing.specs.Page.{IsSmall, IsCell};
 
-/// A box of the picture.
+use crate::group::Group;
+
+/// A box or a band of the picture.
 #[derive(Clone, Copy)]
 pub struct Rect {
     /// Its left side.
@@ -24,7 +25,7 @@ pub struct Rect {
 }
 
 /// A line of level and upright parts by turns: from where it begins level to its trunk, along the trunk to its rail, along the rail to
-/// where it ends, and upright to its end. The first part may have no length.
+/// where it ends, and upright to its end.
 #[derive(Clone, Copy)]
 pub struct PageLine {
     /// The x of where it begins.
@@ -41,9 +42,24 @@ pub struct PageLine {
     pub end_y: u64,
 }
 
-/// A box, and the line that leads to it from the box in the centre.
+/// A line that is upright where it begins and ends, and straight between.
+#[derive(Clone, Copy)]
+pub struct Slant {
+    /// The x of where it begins.
+    pub start_x: u64,
+    /// The y of where it begins.
+    pub start_y: u64,
+    /// The x of its end.
+    pub end_x: u64,
+    /// The y of its end.
+    pub end_y: u64,
+}
+
+/// A box of a group, and the line that leads to it from the box in the centre.
 #[derive(Clone, Copy)]
 pub struct Spot {
+    /// The group.
+    pub group: Group,
     /// The box.
     pub at: Rect,
     /// The line.
@@ -53,116 +69,139 @@ pub struct Spot {
 /// How many boxes stand right above, beside and below the one in the centre.
 #[derive(Clone, Copy)]
 pub(crate) struct Plan {
+    /// How many boxes the widest row has room for.
+    pub columns: u64,
     pub above: u64,
     pub beside: u64,
     pub below: u64,
-    /// How many rows there are above those.
+    /// How many generations there are above those.
     pub further: u64,
 }
 
-/// A place for a box above the one in the centre.
+/// A place for a box in its group.
 #[derive(Clone, Copy)]
 pub(crate) struct Cell {
-    /// Its column.
-    pub column: u64,
-    /// How many rows stand between its row and that of the centre.
-    pub rank: u64,
+    /// How many boxes its row has.
+    pub count: u64,
+    /// How many of them stand left of it.
+    pub place: u64,
+    /// How many rows stand above its own; or how far its generation is above the providers.
+    pub row: u64,
 }
 
-fn row_y(row: u64) -> u64
-    requires { row ≤ 3000 }
-    ensures { result ≡ row_y row }
-{
-    72 + 60 * row
-}
-
-fn column_x(column: u64) -> u64
-    requires { column ≤ 1000 }
-    ensures { result ≡ column_x column }
-{
-    28 + 96 * column
-}
-
-/// How many rows so many boxes fill, ten in a row.
-pub(crate) fn rows_of_ten(boxes: u64) -> u64
+/// How many rows so many boxes fill, and one for none.
+fn rows_of(boxes: u64) -> u64
     requires { boxes ≤ 2001 }
-    ensures is { result ≡ rows_of 10 boxes }
-    ensures few { result ≤ 201 }
-{
-    (boxes + 9) / 10
-}
-
-// The same, eight in a row.
-fn rows_of_eight(boxes: u64) -> u64
-    requires { boxes ≤ 2001 }
-    ensures is { result ≡ rows_of 8 boxes }
+    ensures is { result ≡ rows_of boxes }
     ensures few { result ≤ 251 }
 {
-    (boxes + 7) / 8
+    ((boxes + 7) / 8).max(1)
 }
 
-// The column of a box of so many, of which ten stand in a row.
-fn column_of_ten(boxes: u64, place: u64) -> u64
+// The cell of a box of so many.
+fn cell_of(boxes: u64, place: u64) -> Cell
     requires { (place < boxes) × (boxes ≤ 2001) }
-    ensures is { result ≡ column_of 10 boxes place }
-    ensures below { result < 10 }
-{
-    let in_row = (boxes - 10 * (place / 10)).min(10);
-    5 - in_row / 2 + place % 10
-}
-
-// The column of a box of so many beside the centre, of which eight stand in a row.
-fn column_beside(boxes: u64, place: u64) -> u64
-    requires { (place < boxes) × (boxes ≤ 2001) }
-    ensures is { result ≡ column_beside boxes place }
-    ensures below { result < 10 }
-{
-    let in_row = (boxes - 8 * (place / 8)).min(8);
-    let column = 5 - in_row / 2 + place % 8;
-    if column < 5 { column - 1 } else { column + 1 }
-}
-
-fn box_at(column: u64, row: u64) -> Rect
-    requires { (column < 10) × (row ≤ 3000) }
-    ensures { result ≡ box_at column row }
-{
-    Rect {
-        x: column_x(column),
-        y: row_y(row),
-        width: 80,
-        height: 24,
-    }
-}
-
-/// The cell of a box of so many of a generation whose first row has this rank.
-pub(crate) fn cell_of(boxes: u64, rank: u64, place: u64) -> Cell
-    requires there { (place < boxes) × (boxes ≤ 2001) }
-    requires low { rank ≤ 3000 }
-    ensures { result ≡ cell_of boxes rank place }
+    ensures { result ≡ cell_of boxes place }
 {
     Cell {
-        column: column_of_ten(boxes, place),
-        rank: rank + place / 10,
+        count: (boxes - 8 * (place / 8)).min(8),
+        place: place % 8,
+        row: place / 8,
     }
+}
+
+/// The same in a row that has all of them, with this number.
+pub(crate) fn flat_cell(boxes: u64, row: u64, place: u64) -> Cell
+    ensures { result ≡ flat_cell boxes row place }
+{
+    Cell {
+        count: boxes,
+        place,
+        row,
+    }
+}
+
+fn band_height(rows: u64) -> u64
+    requires { rows ≤ 251 }
+    ensures { result ≡ band_height rows }
+{
+    56 * rows + 8
+}
+
+// One of so many places on a side of a box, from left to right.
+fn place_on(at: &Rect, places: u64, place: u64) -> u64
+    requires few { (place < places) × (places ≤ 2001) }
+    requires low { at.now.x < 2 ^ 32 }
+    ensures { result ≡ place_on at.now places place }
+{
+    at.x + 4 + (80 * (place + 1)) / (places + 1)
 }
 
 impl Plan {
-    // The row of the centre.
-    fn centre_row(&self) -> u64
-        requires { IsSmall self.now }
-        ensures is { result ≡ centre_row self.now }
-        ensures few { result ≤ 1809 }
+    // Whether the providers stand in one row.
+    fn is_one_row(&self) -> bool
+        ensures { result ≡ is_one_row self.now }
     {
-        self.further + rows_of_ten(self.above)
+        0 < self.further
     }
 
-    // The first row below those beside the centre.
-    fn first_row_below(&self) -> u64
+    fn rows_above(&self) -> u64
         requires { IsSmall self.now }
-        ensures is { result ≡ first_row_below self.now }
-        ensures few { result ≤ 2060 }
+        ensures is { result ≡ rows_above self.now }
+        ensures few { result ≤ 251 }
     {
-        self.centre_row() + rows_of_eight(self.beside).max(1)
+        if self.is_one_row() {
+            1
+        } else {
+            rows_of(self.above)
+        }
+    }
+
+    fn cell_above(&self, place: u64) -> Cell
+        requires small { IsSmall self.now }
+        requires there { place < self.now.above }
+        ensures { result ≡ cell_above self.now place }
+    {
+        if self.is_one_row() {
+            flat_cell(self.above, 0, place)
+        } else {
+            cell_of(self.above, place)
+        }
+    }
+
+    // Where the band of a generation begins.
+    fn band_y(&self, up: u64) -> u64
+        requires small { IsSmall self.now }
+        requires there { up ≤ self.now.further }
+        ensures { result ≡ band_y self.now up }
+    {
+        76 + 104 * (self.further - up)
+    }
+
+    fn centre_y(&self) -> u64
+        requires { IsSmall self.now }
+        ensures is { result ≡ centre_y self.now }
+        ensures low { result ≤ 15100 }
+    {
+        self.band_y(0) + band_height(self.rows_above()) + 24
+    }
+
+    // Where the band of the peers begins.
+    fn peers_y(&self) -> u64
+        requires { IsSmall self.now }
+        ensures is { result ≡ peers_y self.now }
+        ensures low { result ≤ 15200 }
+    {
+        self.centre_y() + 56
+    }
+
+    // Where the band of the customers begins.
+    fn customers_y(&self) -> u64
+        requires { IsSmall self.now }
+        ensures is { result ≡ customers_y self.now }
+        ensures low { result ≤ 29400 }
+    {
+        self.peers_y() + band_height(rows_of(self.beside)) + 40
     }
 
     /// How high the page is.
@@ -171,7 +210,71 @@ impl Plan {
         ensures is { result ≡ page_height self.now }
         ensures low { result < 2 ^ 32 }
     {
-        row_y(self.first_row_below() + rows_of_ten(self.below))
+        self.customers_y() + band_height(rows_of(self.below)) + 16
+    }
+
+    /// How wide the page is.
+    pub(crate) fn page_width(&self) -> u64
+        requires { IsSmall self.now }
+        ensures is { result ≡ page_width self.now }
+        ensures low { result < 2 ^ 32 }
+    {
+        148 + 104 * self.columns
+    }
+
+    fn band_at(&self, y: u64, rows: u64) -> Rect
+        requires small { IsSmall self.now }
+        requires few { rows ≤ 251 }
+        ensures { result ≡ band_at self.now y rows }
+    {
+        Rect {
+            x: 8,
+            y,
+            width: self.page_width() - 16,
+            height: band_height(rows),
+        }
+    }
+
+    /// The band that is so many generations above the providers.
+    pub(crate) fn high_band(&self, up: u64) -> Rect
+        requires small { IsSmall self.now }
+        requires there { up ≤ self.now.further }
+        ensures { result ≡ band_at self.now (band_y self.now up) 1 }
+    {
+        self.band_at(self.band_y(up), 1)
+    }
+
+    /// The band of the providers.
+    pub(crate) fn providers_band(&self) -> Rect
+        requires { IsSmall self.now }
+        ensures { result ≡ band_at self.now (band_y self.now 0) (rows_above self.now) }
+    {
+        self.band_at(self.band_y(0), self.rows_above())
+    }
+
+    /// The band of the peers.
+    pub(crate) fn peers_band(&self) -> Rect
+        requires { IsSmall self.now }
+        ensures { result ≡ band_at self.now (peers_y self.now) (rows_of self.now.beside) }
+    {
+        self.band_at(self.peers_y(), rows_of(self.beside))
+    }
+
+    /// The band of the customers.
+    pub(crate) fn customers_band(&self) -> Rect
+        requires { IsSmall self.now }
+        ensures { result ≡ band_at self.now (customers_y self.now) (rows_of self.now.below) }
+    {
+        self.band_at(self.customers_y(), rows_of(self.below))
+    }
+
+    // The middle of all rows.
+    fn axis(&self) -> u64
+        requires { IsSmall self.now }
+        ensures is { result ≡ axis self.now }
+        ensures far { (292 ≤ result) × (result < 2 ^ 32) }
+    {
+        136 + 52 * self.columns
     }
 
     /// The box in the centre.
@@ -180,58 +283,93 @@ impl Plan {
         ensures { result ≡ centre_box self.now }
     {
         Rect {
-            x: 440,
-            y: row_y(self.centre_row()),
+            x: self.axis() - 60,
+            y: self.centre_y(),
             width: 120,
-            height: 24,
+            height: 32,
         }
     }
 
-    // The line up to the box in this column and row.
-    fn line_up(&self, column: u64, row: u64) -> PageLine
+    // The box in a cell, if the first row of its group begins here.
+    fn box_at(&self, y: u64, cell: Cell) -> Rect
         requires small { IsSmall self.now }
-        requires there { (column < 10) × (row ≤ 3000) }
-        ensures { result ≡ line_up self.now column row }
+        requires low { y ≤ 30000 }
+        requires there { (cell.count ≤ self.now.columns) × (cell.place < cell.count) }
+        requires row { cell.row ≤ 251 }
+        ensures is { result ≡ box_at self.now y cell }
+        ensures inside { (result.x < 2 ^ 31) × (result.y < 2 ^ 31) × (y ≤ result.y) }
     {
-        PageLine {
-            start_x: 500,
-            start_y: row_y(self.centre_row()),
-            trunk_x: 500,
-            rail_y: row_y(row) + 38,
-            end_x: column_x(column) + 40,
-            end_y: row_y(row) + 24,
+        Rect {
+            x: 144 + 52 * (self.columns - cell.count) + 104 * cell.place,
+            y: y + 56 * cell.row,
+            width: 88,
+            height: 32,
         }
     }
 
-    // The line to the left or the right to the box in this column and row.
-    fn line_beside(&self, column: u64, row: u64) -> PageLine
+    /// The box in a cell of a further generation.
+    pub(crate) fn high_box(&self, cell: Cell) -> Rect
         requires small { IsSmall self.now }
-        requires there { (column < 10) × (row ≤ 3000) }
-        ensures { result ≡ line_beside self.now column row }
+        requires there { IsCell self.now cell }
+        ensures is { result ≡ high_box self.now cell }
+        ensures inside { (result.x < 2 ^ 31) × (result.y < 2 ^ 31) }
+    {
+        self.box_at(
+            self.band_y(cell.row) + 12,
+            Cell {
+                count: cell.count,
+                place: cell.place,
+                row: 0,
+            },
+        )
+    }
+
+    // The line up to a box.
+    fn line_up(&self, at: &Rect) -> PageLine
+        requires small { IsSmall self.now }
+        requires low { (at.now.x < 2 ^ 31) × (at.now.y < 2 ^ 31) }
+        ensures { result ≡ line_up self.now at.now }
     {
         PageLine {
-            start_x: if column < 5 { 440 } else { 560 },
-            start_y: row_y(self.centre_row()) + 12,
-            trunk_x: if column < 5 { 418 } else { 582 },
-            rail_y: row_y(row) + 38,
-            end_x: column_x(column) + 40,
-            end_y: row_y(row) + 24,
+            start_x: self.axis() - 60,
+            start_y: self.centre_y() + 16,
+            trunk_x: 130,
+            rail_y: at.y + 42,
+            end_x: at.x + 44,
+            end_y: at.y + 32,
         }
     }
 
-    // The line down to the box in this column and row.
-    fn line_down(&self, column: u64, row: u64) -> PageLine
+    // The line down to a box.
+    fn line_down(&self, at: &Rect) -> PageLine
         requires small { IsSmall self.now }
-        requires there { (column < 10) × (row ≤ 3000) }
-        ensures { result ≡ line_down self.now column row }
+        requires low { (at.now.x < 2 ^ 31) × (at.now.y < 2 ^ 31) × (10 ≤ at.now.y) }
+        ensures { result ≡ line_down self.now at.now }
     {
         PageLine {
-            start_x: 500,
-            start_y: row_y(self.centre_row()) + 24,
-            trunk_x: 500,
-            rail_y: row_y(row) - 14,
-            end_x: column_x(column) + 40,
-            end_y: row_y(row),
+            start_x: self.axis() - 60,
+            start_y: self.centre_y() + 16,
+            trunk_x: 130,
+            rail_y: at.y - 10,
+            end_x: at.x + 44,
+            end_y: at.y,
+        }
+    }
+
+    /// The line from the box in one cell to that in a cell of the next generation.
+    pub(crate) fn slant_of(&self, lower: Cell, upper: Cell) -> Slant
+        requires small { IsSmall self.now }
+        requires lower { IsCell self.now lower }
+        requires upper { IsCell self.now upper }
+        ensures { result ≡ slant_of self.now lower upper }
+    {
+        let one = self.high_box(lower);
+        let other = self.high_box(upper);
+        Slant {
+            start_x: place_on(&one, upper.count, upper.place),
+            start_y: one.y,
+            end_x: place_on(&other, lower.count, lower.place),
+            end_y: other.y + 32,
         }
     }
 
@@ -241,11 +379,11 @@ impl Plan {
         requires there { place < self.now.above }
         ensures { result ≡ spot_above self.now place }
     {
-        let column = column_of_ten(self.above, place);
-        let row = self.centre_row() - 1 - place / 10;
+        let at = self.box_at(self.band_y(0) + 12, self.cell_above(place));
         Spot {
-            at: box_at(column, row),
-            line: self.line_up(column, row),
+            group: Group::Providers,
+            at,
+            line: self.line_up(&at),
         }
     }
 
@@ -255,11 +393,11 @@ impl Plan {
         requires there { place < self.now.beside }
         ensures { result ≡ spot_beside self.now place }
     {
-        let column = column_beside(self.beside, place);
-        let row = self.centre_row() + place / 8;
+        let at = self.box_at(self.peers_y() + 20, cell_of(self.beside, place));
         Spot {
-            at: box_at(column, row),
-            line: self.line_beside(column, row),
+            group: Group::Peers,
+            at,
+            line: self.line_down(&at),
         }
     }
 
@@ -269,11 +407,11 @@ impl Plan {
         requires there { place < self.now.below }
         ensures { result ≡ spot_below self.now place }
     {
-        let column = column_of_ten(self.below, place);
-        let row = self.first_row_below() + place / 10;
+        let at = self.box_at(self.customers_y() + 20, cell_of(self.below, place));
         Spot {
-            at: box_at(column, row),
-            line: self.line_down(column, row),
+            group: Group::Customers,
+            at,
+            line: self.line_down(&at),
         }
     }
 
@@ -290,44 +428,5 @@ impl Plan {
             return self.spot_beside(place - self.above);
         }
         self.spot_below(place - (self.above + self.beside))
-    }
-
-    // The row of a cell.
-    fn cell_row(&self, cell: Cell) -> u64
-        requires small { IsSmall self.now }
-        requires there { IsCell (centre_row self.now) cell }
-        ensures is { result ≡ cell_row self.now cell }
-        ensures few { result ≤ 3000 }
-    {
-        self.centre_row() - 1 - cell.rank
-    }
-
-    /// The box in a cell.
-    pub(crate) fn box_in(&self, cell: Cell) -> Rect
-        requires small { IsSmall self.now }
-        requires there { IsCell (centre_row self.now) cell }
-        ensures { result ≡ box_in self.now cell }
-    {
-        box_at(cell.column, self.cell_row(cell))
-    }
-
-    /// The line from the box in one cell to that in a cell above it.
-    pub(crate) fn rising_line(&self, lower: Cell, upper: Cell) -> PageLine
-        requires small { IsSmall self.now }
-        requires lower { IsCell (centre_row self.now) lower }
-        requires upper { IsCell (centre_row self.now) upper }
-        ensures { result ≡ rising_line self.now lower upper }
-    {
-        let side = column_x(lower.column);
-        let rail = row_y(self.cell_row(upper));
-        let is_right = lower.column < upper.column;
-        PageLine {
-            start_x: if is_right { side + 80 } else { side },
-            start_y: row_y(self.cell_row(lower)) + 12,
-            trunk_x: if is_right { side + 85 } else { side - 5 },
-            rail_y: rail + 28 + 3 * lower.column,
-            end_x: column_x(upper.column) + 40,
-            end_y: rail + 24,
-        }
     }
 }

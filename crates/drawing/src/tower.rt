@@ -13,7 +13,7 @@ ghost use Rattle.std.specs.List.{enumerate_from};
 use crate::drawing::{BoxEntry, Groups, put_entries};
 use crate::generation::{generation_above, upward};
 use crate::group::Neighbour;
-use crate::page::{Cell, cell_of, rows_of_ten};
+use crate::page::{Cell, flat_cell};
 use crate::standings::{Standing, Standings};
 use relationships::Mark;
 use result_text::EdgeLine;
@@ -35,7 +35,6 @@ pub(crate) struct Tie {
     pub lower: Cell,
     pub upper: Cell,
     pub mark: Mark,
-    pub support: u64,
 }
 
 /// What stands above an AS so far.
@@ -45,8 +44,12 @@ pub(crate) struct Tower {
     nearer: NumberSet,
     /// Those of the topmost generation that are drawn.
     topmost: Standings,
-    /// How many rows there are, with those of the providers.
+    /// How many generations there are above the providers.
     pub rank: u64,
+    /// How many boxes the widest of those has.
+    pub widest: u64,
+    /// How many ASes each of them has, the lowest first.
+    pub sizes: Vec<u64>,
     /// The boxes above those of the providers.
     pub perches: Vec<Perch>,
     /// The lines to them.
@@ -66,19 +69,17 @@ fn box_count(most: usize, generation: &[Neighbour]) -> usize
     }
 }
 
-// Where an AS of a generation of so many boxes stands, in rows from this rank on.
+// Where an AS of a generation of so many boxes stands, this high above the providers.
 fn standing_at(boxes: usize, rank: u64, place: usize, neighbour: &Neighbour) -> Standing
-    requires there { (place < boxes) × (boxes ≤ 2001) }
-    requires low { rank ≤ 3000 }
     ensures { result ≡ standing_at boxes rank (place, neighbour.now) }
 {
     Standing {
         number: neighbour.number,
-        cell: cell_of(boxes as u64, rank, place as u64),
+        cell: flat_cell(boxes as u64, rank, place as u64),
     }
 }
 
-// Adds the ASes of a generation that are drawn, in rows from this rank on.
+// Adds the ASes of a generation that are drawn, this high above the providers.
 fn add_standings(
     drawn: &mut Standings,
     generation: &[Neighbour],
@@ -86,7 +87,6 @@ fn add_standings(
     rank: u64,
 ) -> Result<(), NoMemory>
     requires few { most ≤ 2000 }
-    requires low { rank ≤ 3000 }
     ensures { OnOk result ((n : ℕ) → standing_of n drawn.new ≡ standing_of n (drawn.old ++ standings_at most rank generation.now)) }
 {
     let boxes = box_count(most, generation);
@@ -96,7 +96,7 @@ fn add_standings(
     Ok(())
 }
 
-// The ASes of a generation that are drawn, in rows from this rank on.
+// The ASes of a generation that are drawn, this high above the providers.
 fn standings_of(
     alloc: Global,
     keys: Keys,
@@ -105,7 +105,6 @@ fn standings_of(
     rank: u64,
 ) -> Result<Standings, NoMemory>
     requires few { most ≤ 2000 }
-    requires low { rank ≤ 3000 }
     ensures { IfOk result (λ drawn. (n : ℕ) → standing_of n drawn ≡ standing_of n (standings_at most rank generation.now)) }
 {
     let mut drawn = Standings::new(alloc, keys);
@@ -132,7 +131,6 @@ fn tie_of(lower: &Standings, upper: &Standings, edge: &EdgeLine) -> Option<Tie>
                     lower: customer.cell,
                     upper: provider.cell,
                     mark: edge.mark,
-                    support: edge.support,
                 }),
             },
         },
@@ -172,22 +170,18 @@ fn put_ties(
     Ok(())
 }
 
-// A box with this entry in a generation of so many, in rows from this rank on.
+// A box with this entry in a generation of so many, this high above the providers.
 fn perch_at(boxes: usize, rank: u64, place: usize, entry: &BoxEntry) -> Perch
-    requires there { (place < boxes) × (boxes ≤ 2001) }
-    requires low { rank ≤ 3000 }
     ensures { result ≡ perch_at boxes rank (place, entry.now) }
 {
     Perch {
         entry: *entry,
-        cell: cell_of(boxes as u64, rank, place as u64),
+        cell: flat_cell(boxes as u64, rank, place as u64),
     }
 }
 
-// Puts boxes with these entries at the end, in rows from this rank on.
+// Puts boxes with these entries at the end, this high above the providers.
 fn put_boxes(perches: &mut Vec<Perch>, entries: &[BoxEntry], rank: u64) -> Result<(), NoMemory>
-    requires few { length entries.now ≤ 2001 }
-    requires low { rank ≤ 3000 }
     ensures { OnOk result (perches.new.items ≡
         perches.old.items ++ map (perch_at (length entries.now) rank) (enumerate_from 0 entries.now)) }
 {
@@ -197,7 +191,7 @@ fn put_boxes(perches: &mut Vec<Perch>, entries: &[BoxEntry], rank: u64) -> Resul
     Ok(())
 }
 
-// Puts the boxes of a generation at the end, in rows from this rank on.
+// Puts the boxes of a generation at the end, this high above the providers.
 fn put_perches(
     alloc: Global,
     perches: &mut Vec<Perch>,
@@ -206,7 +200,6 @@ fn put_perches(
     rank: u64,
 ) -> Result<(), NoMemory>
     requires few { most ≤ 2000 }
-    requires low { rank ≤ 3000 }
     ensures { OnOk result (perches.new.items ≡ perches.old.items ++ perches_at most rank generation.now) }
 {
     let mut entries = Vec::new(alloc);
@@ -277,13 +270,16 @@ impl Tower {
         drawn: &Standings,
     ) -> Result<(), NoMemory>
         requires few { most ≤ 2000 }
-        requires low { self.old.rank ≤ 2700 }
+        requires low { self.old.rank ≤ 8 }
+        requires wide { self.old.widest ≤ 2001 }
         ensures put { OnOk result (IsTowerRaised edges.now most generation.now drawn.now self.old self.new) }
-        ensures low { OnOk result (self.new.rank ≤ self.old.rank + 201) }
+        ensures low { OnOk result ((self.new.rank ≤ self.old.rank + 1) × (self.new.widest ≤ 2001)) }
     {
         put_ties(&mut self.ties, &self.topmost, drawn, edges)?;
-        put_perches(alloc, &mut self.perches, generation, most, self.rank)?;
-        self.rank += rows_of_ten(box_count(most, generation) as u64);
+        put_perches(alloc, &mut self.perches, generation, most, self.rank + 1)?;
+        self.sizes.push(generation.len() as u64)?;
+        self.widest = self.widest.max(box_count(most, generation) as u64);
+        self.rank += 1;
         Ok(())
     }
 
@@ -297,11 +293,12 @@ impl Tower {
         generation: &[Neighbour],
     ) -> Result<(), NoMemory>
         requires few { most ≤ 2000 }
-        requires low { self.old.rank ≤ 2700 }
+        requires low { self.old.rank ≤ 8 }
+        requires wide { self.old.widest ≤ 2001 }
         ensures stacked { OnOk result (IsStacked edges.now most generation.now self.old self.new) }
-        ensures low { OnOk result (self.new.rank ≤ self.old.rank + 201) }
+        ensures low { OnOk result ((self.new.rank ≤ self.old.rank + 1) × (self.new.widest ≤ 2001)) }
     {
-        let drawn = standings_of(alloc, keys, generation, most, self.rank)?;
+        let drawn = standings_of(alloc, keys, generation, most, self.rank + 1)?;
         match self.put(alloc, edges, most, generation, &drawn) {
             Ok(()) => {
                 drop(mem::replace(&mut self.topmost, drawn));
@@ -323,10 +320,11 @@ impl Tower {
         most: usize,
     ) -> Result<(), NoMemory>
         requires few { most ≤ 2000 }
-        requires low { self.old.rank ≤ 2700 }
+        requires low { self.old.rank ≤ 8 }
+        requires wide { self.old.widest ≤ 2001 }
         ensures raised { OnOk result ((first : List Neighbour) (near : List ℕ) (gs : List (List Neighbour)) →
             IsTower edges.now most first near gs self.old → (g : List Neighbour) × IsTower edges.now most first near (g ∷ gs) self.new) }
-        ensures low { OnOk result (self.new.rank ≤ self.old.rank + 201) }
+        ensures low { OnOk result ((self.new.rank ≤ self.old.rank + 1) × (self.new.widest ≤ 2001)) }
     {
         let generation = generation_above(alloc, edges, &self.topmost, &mut self.nearer)?;
         let done = self.stack(alloc, keys, edges, most, &generation);
@@ -346,14 +344,16 @@ fn begun(
     requires few { most ≤ 2000 }
     ensures begun { IfOk result (λ t. (edges : List EdgeLine) → IsTower edges most groups.now.providers.items
         (near_numbers asked groups.now.providers.items groups.now.peers.items groups.now.customers.items) [] t) }
-    ensures low { IfOk result (λ t. t.rank ≤ 201) }
+    ensures low { IfOk result (λ t. (t.rank ≡ 0) × (t.widest ≡ 0)) }
 {
     let nearer = near_numbers(alloc, keys, asked, groups)?;
     match standings_of(alloc, keys, &groups.providers, most, 0) {
         Ok(topmost) => Ok(Tower {
             nearer,
             topmost,
-            rank: rows_of_ten(box_count(most, &groups.providers) as u64),
+            rank: 0,
+            widest: 0,
+            sizes: Vec::new(alloc),
             perches: Vec::new(alloc),
             ties: Vec::new(alloc),
         }),
@@ -379,7 +379,7 @@ pub(crate) fn tower_of(
     ensures all { IfOk result (λ t. (gs : List (List Neighbour)) × (length gs ≡ depth - 1)
         × IsTower edges.now most groups.now.providers.items
         (near_numbers asked groups.now.providers.items groups.now.peers.items groups.now.customers.items) gs t) }
-    ensures low { IfOk result (λ t. t.rank ≤ 1608) }
+    ensures low { IfOk result (λ t. (t.rank ≤ 8) × (t.widest ≤ 2001)) }
 {
     let mut tower = begun(alloc, keys, asked, groups, most)?;
     for _ in 0..depth.saturating_sub(1) {

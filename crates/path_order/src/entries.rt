@@ -1,24 +1,25 @@
-//! What the order looks at first of each path, so that hardly any path has to be read for a comparison.
-ghost use Rattle.std.specs.Prelude.{◌≡◌, ◌+◌, ◌-◌, ◌≤◌, ◌<◌, ◌^◌, length, sum_by, slice_index, IsPermutation, IsSorted, IfOk, IsTrue, map};
-ghost use Rattle.tor_arena.specs.Limits.{max_paths, max_numbers};
+//! What the order looks at first of each path of one length, so that hardly any path has to be read for a comparison.
+ghost use Rattle.std.specs.Prelude.{◌≡◌, ◌+◌, ◌*◌, ◌^◌, ◌<◌, ◌++◌, ◌∷◌, [], slice_index, IsPermutation, IsSorted, OnOk};
+ghost use Rattle.std.specs.Ordering.{nat_cmp};
+ghost use Rattle.std.specs.Cmp.Lexicographic.{slice_cmp};
 ghost use Rattle.path_table.specs.Chains.{row_at};
-ghost use Rattle.path_table.specs.Rows.{none_twice};
-ghost use Rattle.path_order.specs.Entries.{entry_of, entries_from, entry_cmp, AreShortBehind};
+ghost use Rattle.path_order.specs.Entries.{entry_of, entry_cmp, IsOf};
 
-use std::alloc::Global;
 use std::cmp::Ordering;
-use tor_arena::{Index, NoMemory, PathId, Rows, reserve};
+use tor_arena::{Index, NoMemory, PathId, Rows};
 
-/// What the order looks at first of a path: how many numbers it has, and the first four of them, 0 where there is none. And where it
-/// stands.
+/// What the order looks at first of a path whose length is known: its first seven numbers, 0 where there is none. And where it stands. The
+/// first number lies last, so that two of them are read at once.
 #[derive(Clone, Copy)]
-struct Entry {
-    size: u32,
-    first: u32,
-    second: u32,
-    third: u32,
+pub(crate) struct Entry {
+    pub(crate) place: u32,
+    seventh: u32,
+    sixth: u32,
+    fifth: u32,
     fourth: u32,
-    place: u32,
+    third: u32,
+    second: u32,
+    first: u32,
 }
 
 /// The path in a place; none has no numbers.
@@ -41,121 +42,101 @@ fn number_at(path: &[u32], place: usize) -> u32
     if place < path.len() { path[place] } else { 0 }
 }
 
-/// What is noted of the path in a place.
-fn entry_at(rows: &Rows<PathId, u32>, place: usize) -> Entry
-    requires place { place < length rows.now }
-    requires few { length rows.now ≤ max_paths }
-    requires short { sum_by length rows.now ≤ max_numbers }
-    ensures { result ≡ entry_of place (row_at rows.now place) }
+/// What is noted of a path in a place.
+pub(crate) fn entry_at(place: u32, path: &[u32]) -> Entry
+    ensures { result ≡ entry_of place path.now }
 {
-    let path = row_of(rows, place);
     Entry {
-        size: path.len() as u32,
-        first: number_at(path, 0),
-        second: number_at(path, 1),
-        third: number_at(path, 2),
+        place,
+        seventh: number_at(path, 6),
+        sixth: number_at(path, 5),
+        fifth: number_at(path, 4),
         fourth: number_at(path, 3),
-        place: place as u32,
+        third: number_at(path, 2),
+        second: number_at(path, 1),
+        first: number_at(path, 0),
     }
 }
 
-/// What is noted of the paths from a place on.
-fn entries_of(alloc: Global, rows: &Rows<PathId, u32>, start: usize) -> Result<Vec<Entry>, NoMemory>
-    requires start { start ≤ length rows.now }
-    requires few { length rows.now ≤ max_paths }
-    requires short { sum_by length rows.now ≤ max_numbers }
-    ensures { IfOk result (λ entries. entries.items ≡ entries_from rows.now start (length rows.now - start)) }
+/// Two numbers as one, which compares as they do.
+fn pair(first: u32, second: u32) -> u64
+    ensures pair { result ≡ first * 2 ^ 32 + second }
+    ensures small { second < 2 ^ 32 }
 {
-    let mut entries = Vec::new(alloc);
-    let count = rows.len() - start;
-    if reserve(&mut entries, count).is_err() {
-        return Err(NoMemory);
-    }
-    for turn in 0..count {
-        entries.push_reserved(entry_at(rows, start + turn));
-    }
-    Ok(entries)
+    first as u64 * 0x1_0000_0000 + second as u64
 }
 
-/// Which of two paths comes first, by what is noted of them, and by the paths themselves only where that is the same.
+/// Which of two paths of one length comes first, by the paths themselves.
+#[cold]
+#[inline(never)]
+fn rows_compared(rows: &Rows<PathId, u32>, a: u32, b: u32) -> Ordering
+    ensures { result ≡ slice_cmp nat_cmp (row_at rows.now a) (row_at rows.now b) }
+{
+    row_of(rows, a as usize).cmp(row_of(rows, b as usize))
+}
+
+/// Which of two paths of one length comes first, by what is noted of them, and by the paths themselves only where that is the same.
 fn compared(rows: &Rows<PathId, u32>, a: &Entry, b: &Entry) -> Ordering
     ensures { result ≡ entry_cmp rows.now a.now b.now }
 {
-    match a.size.cmp(&b.size) {
+    match pair(a.first, a.second).cmp(&pair(b.first, b.second)) {
         Ordering::Equal => {}
         order => return order,
     }
-    match a.first.cmp(&b.first) {
+    match pair(a.third, a.fourth).cmp(&pair(b.third, b.fourth)) {
         Ordering::Equal => {}
         order => return order,
     }
-    match a.second.cmp(&b.second) {
+    match pair(a.fifth, a.sixth).cmp(&pair(b.fifth, b.sixth)) {
         Ordering::Equal => {}
         order => return order,
     }
-    match a.third.cmp(&b.third) {
+    match a.seventh.cmp(&b.seventh) {
         Ordering::Equal => {}
         order => return order,
     }
-    match a.fourth.cmp(&b.fourth) {
-        Ordering::Equal => {}
-        order => return order,
-    }
-    row_of(rows, a.place as usize).cmp(row_of(rows, b.place as usize))
+    rows_compared(rows, a.place, b.place)
 }
 
-/// Sorts what is noted of paths.
-fn sort_entries(rows: &Rows<PathId, u32>, entries: &mut Vec<Entry>)
+/// Sorts what is noted of paths of one length.
+pub(crate) fn sort_entries(rows: &Rows<PathId, u32>, entries: &mut Vec<Entry>)
     ensures same { IsPermutation entries.old.items entries.new.items }
     ensures sorted { IsSorted (entry_cmp rows.now) entries.new.items }
 {
     entries.sort_unstable_by(|a, b| compared(rows, a, b));
 }
 
-/// What is noted of the paths from a place on, in the order of the paths.
-fn sorted_entries(
-    alloc: Global,
-    rows: &Rows<PathId, u32>,
-    start: usize,
-) -> Result<Vec<Entry>, NoMemory>
-    requires start { start ≤ length rows.now }
-    requires few { length rows.now ≤ max_paths }
-    requires short { sum_by length rows.now ≤ max_numbers }
-    ensures same { IfOk result (λ entries. IsPermutation (entries_from rows.now start (length rows.now - start)) entries.items) }
-    ensures sorted { IfOk result (λ entries. IsSorted (entry_cmp rows.now) entries.items) }
+/// Adds a path. The only error is that memory ran out.
+pub(crate) fn push_path(paths: &mut Rows<PathId, u32>, path: &[u32]) -> Result<(), NoMemory>
+    ensures { OnOk result (paths.new ≡ paths.old ++ path.now ∷ []) }
 {
-    let mut entries = entries_of(alloc, rows, start)?;
-    sort_entries(rows, &mut entries);
-    Ok(entries)
+    match paths.push_row(path) {
+        Ok(_) => Ok(()),
+        Err(_) => Err(NoMemory),
+    }
 }
 
-/// The places of paths, by what is noted of them.
-fn places_of(alloc: Global, entries: &[Entry]) -> Result<Vec<u32>, NoMemory>
-    ensures { IfOk result (λ places. places.items ≡ map (λ e. e.place) entries.now) }
-{
-    let mut places = Vec::new(alloc);
-    if reserve(&mut places, entries.len()).is_err() {
-        return Err(NoMemory);
-    }
-    for k in 0..entries.len() {
-        places.push_reserved(entries[k].place);
-    }
-    Ok(places)
-}
-
-/// The places of the paths behind the first ones, shorter paths first. What is noted of them is let go before this returns, so that what
-/// follows has its memory.
-pub(crate) fn places_in_order(
-    alloc: Global,
+/// Adds the path of this length that an entry is of. Only a longer one is read where it stands.
+pub(crate) fn push_noted(
     rows: &Rows<PathId, u32>,
-    kept: usize,
-) -> Result<Vec<u32>, NoMemory>
-    requires kept { kept ≤ length rows.now }
-    requires few { length rows.now ≤ max_paths }
-    requires short { sum_by length rows.now ≤ max_numbers }
-    requires once { IsTrue (none_twice rows.now) }
-    ensures { IfOk result (λ places. AreShortBehind kept rows.now places.items) }
+    size: usize,
+    entry: &Entry,
+    paths: &mut Rows<PathId, u32>,
+) -> Result<(), NoMemory>
+    requires { IsOf rows.now size entry.now }
+    ensures { OnOk result (paths.new ≡ paths.old ++ row_at rows.now entry.now.place ∷ []) }
 {
-    let entries = sorted_entries(alloc, rows, kept)?;
-    places_of(alloc, entries.as_slice())
+    if size > 7 {
+        return push_path(paths, row_of(rows, entry.place as usize));
+    }
+    let numbers = [
+        entry.first,
+        entry.second,
+        entry.third,
+        entry.fourth,
+        entry.fifth,
+        entry.sixth,
+        entry.seventh,
+    ];
+    push_path(paths, &numbers[..size])
 }

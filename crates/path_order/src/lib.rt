@@ -6,6 +6,7 @@ mod entries;
 mod holding;
 mod laws;
 mod ordering;
+mod remaining;
 
 pub use choice::Order;
 pub use holding::DistinctPaths;

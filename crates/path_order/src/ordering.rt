@@ -1,15 +1,16 @@
 //! Distinct paths in their order.
-ghost use Rattle.std.specs.Prelude.{◌≡◌, ◌≤◌, ◌++◌, length, take, sum_by, slice_index, IsTrue, IfOk, OnOk};
+ghost use Rattle.std.specs.Prelude.{ℕ, ◌≡◌, ◌+◌, ◌-◌, ◌≤◌, ◌++◌, All, length, take, sum_by, slice_index, IsTrue, IfOk, OnOk};
 ghost use Rattle.tor_arena.specs.Limits.{max_paths, max_numbers};
 ghost use Rattle.path_table.specs.Chains.{row_at};
 ghost use Rattle.path_table.specs.Rows.{row_paths, times_of, none_twice};
 ghost use Rattle.path_table.specs.Inside.{counted_by};
 ghost use Rattle.path_order.specs.declared.choice.Order.TheVariants.{Short};
 ghost use Rattle.path_order.specs.Orders.{ordered_behind};
-ghost use Rattle.path_order.specs.Entries.{rows_at, times_at};
+ghost use Rattle.path_order.specs.Entries.{AreToCome, IsOf, paths_left, row_places, places_of, rows_at, times_at, times_left};
 
 use crate::choice::Order;
-use crate::entries::{places_in_order, row_of};
+use crate::entries::{Entry, push_noted, push_path, row_of};
+use crate::remaining::Remaining;
 use path_table::PathTable;
 use std::alloc::Global;
 use tor_arena::{List, NoMemory, PathId, Rows, reserve};
@@ -26,25 +27,23 @@ fn first_paths(
     let mut paths = Rows::new(alloc);
     paths.reserve(rows.len(), rows.item_count())?;
     for place in 0..kept {
-        let Ok(_) = paths.push_row(row_of(rows, place)) else {
-            return Err(NoMemory);
-        };
+        push_path(&mut paths, row_of(rows, place))?;
     }
     Ok(paths)
 }
 
-/// Adds the paths in these places, one after the other.
+/// Adds the paths of this length that these entries are of, one after the other.
 fn add_paths(
     rows: &Rows<PathId, u32>,
-    places: &[u32],
+    size: usize,
+    entries: &[Entry],
     paths: &mut Rows<PathId, u32>,
 ) -> Result<(), NoMemory>
-    ensures { OnOk result (paths.new ≡ paths.old ++ rows_at rows.now places.now) }
+    requires of { All (IsOf rows.now size) entries.now }
+    ensures { OnOk result (paths.new ≡ paths.old ++ rows_at rows.now (places_of entries.now)) }
 {
-    for k in 0..places.len() {
-        let Ok(_) = paths.push_row(row_of(rows, places[k] as usize)) else {
-            return Err(NoMemory);
-        };
+    for k in 0..entries.len() {
+        push_noted(rows, size, &entries[k], paths)?;
     }
     Ok(())
 }
@@ -64,12 +63,12 @@ fn first_times(alloc: Global, times: &[u64], kept: usize) -> Result<List<u64>, N
     Ok(List::from_vec(first))
 }
 
-/// Adds the times in these places, one after the other.
-fn add_times(times: &[u64], places: &[u32], ordered: &mut List<u64>) -> Result<(), NoMemory>
-    ensures { OnOk result (ordered.new ≡ ordered.old ++ times_at times.now places.now) }
+/// Adds the times of the paths that these entries are of, one after the other.
+fn add_times(times: &[u64], entries: &[Entry], ordered: &mut List<u64>) -> Result<(), NoMemory>
+    ensures { OnOk result (ordered.new ≡ ordered.old ++ times_at times.now (places_of entries.now)) }
 {
-    for k in 0..places.len() {
-        ordered.push(time_at(times, places[k] as usize))?;
+    for k in 0..entries.len() {
+        ordered.push(time_at(times, entries[k].place as usize))?;
     }
     Ok(())
 }
@@ -81,38 +80,64 @@ fn time_at(times: &[u64], place: usize) -> u64
     if place < times.len() { times[place] } else { 0 }
 }
 
-/// The first paths as they stand, so many of them, and behind them those in these places.
-fn paths_behind(
-    alloc: Global,
+/// Takes the paths of a length from those that are still to come, and adds them and their times in their order.
+fn add_size(
     rows: &Rows<PathId, u32>,
-    kept: usize,
-    places: &[u32],
-) -> Result<Rows<PathId, u32>, NoMemory>
-    requires { kept ≤ length rows.now }
-    ensures { IfOk result (λ paths. paths ≡ take kept rows.now ++ rows_at rows.now places.now) }
+    times: &[u64],
+    size: usize,
+    remaining: &mut Remaining,
+    paths: &mut Rows<PathId, u32>,
+    ordered: &mut List<u64>,
+) -> Result<(), NoMemory>
+    requires left { AreToCome rows.now times.now size remaining.old.left.items }
+    ensures left { OnOk result (AreToCome rows.now times.now (size + 1) remaining.new.left.items) }
+    ensures paths { OnOk result (paths.new ++ paths_left rows.now times.now remaining.new.left.items
+        ≡ paths.old ++ paths_left rows.now times.now remaining.old.left.items) }
+    ensures times { OnOk result (ordered.new ++ times_left rows.now times.now remaining.new.left.items
+        ≡ ordered.old ++ times_left rows.now times.now remaining.old.left.items) }
 {
-    let mut paths = first_paths(alloc, rows, kept)?;
-    match add_paths(rows, places, &mut paths) {
-        Ok(()) => Ok(paths),
-        Err(NoMemory) => Err(NoMemory),
-    }
+    remaining.take(rows, size)?;
+    add_paths(rows, size, remaining.taken(), paths)?;
+    add_times(times, remaining.taken(), ordered)?;
+    Ok(())
 }
 
-/// The first times as they stand, so many of them, and behind them those in these places.
-fn times_behind(
-    alloc: Global,
-    times: &[u64],
-    kept: usize,
-    places: &[u32],
-) -> Result<List<u64>, NoMemory>
-    requires { kept ≤ length times.now }
-    ensures { IfOk result (λ ordered. ordered ≡ take kept times.now ++ times_at times.now places.now) }
+/// The greatest length of a path.
+#[tactic(auto, using(crate::proofs::SizeLemmas::row_short))]
+fn longest_of(rows: &Rows<PathId, u32>) -> usize
+    requires { sum_by length rows.now ≤ max_numbers }
+    ensures longest { (place : ℕ) → length (row_at rows.now place) ≤ result }
+    ensures few { result ≤ max_numbers }
 {
-    let mut ordered = first_times(alloc, times, kept)?;
-    match add_times(times, places, &mut ordered) {
-        Ok(()) => Ok(ordered),
-        Err(NoMemory) => Err(NoMemory),
+    let mut longest = 0;
+    for place in 0..rows.len() {
+        longest = longest.max(row_of(rows, place).len());
     }
+    longest
+}
+
+/// Adds the paths behind the first ones and their times, shorter ones first.
+fn add_others(
+    alloc: Global,
+    kept: usize,
+    rows: &Rows<PathId, u32>,
+    times: &[u64],
+    paths: &mut Rows<PathId, u32>,
+    ordered: &mut List<u64>,
+) -> Result<(), NoMemory>
+    requires kept { kept ≤ length rows.now }
+    requires few { length rows.now ≤ max_paths }
+    requires short { sum_by length rows.now ≤ max_numbers }
+    requires left { AreToCome rows.now times.now 2 (row_places kept (length rows.now - kept)) }
+    ensures paths { OnOk result (paths.new ≡ paths.old ++ paths_left rows.now times.now (row_places kept (length rows.now - kept))) }
+    ensures times { OnOk result (ordered.new ≡ ordered.old ++ times_left rows.now times.now (row_places kept (length rows.now - kept))) }
+{
+    let mut remaining = Remaining::behind(alloc, kept, rows.len())?;
+    let end = longest_of(rows) + 1;
+    for size in 2..end {
+        add_size(rows, times, size, &mut remaining, paths, ordered)?;
+    }
+    Ok(())
 }
 
 /// The first paths as they stand, so many of them, and behind them the others, shorter ones first; and the times of each.
@@ -126,13 +151,14 @@ fn short_behind(
     requires same { length times.now ≡ length rows.now }
     requires few { length rows.now ≤ max_paths }
     requires short { sum_by length rows.now ≤ max_numbers }
+    requires several { All (λ path. 2 ≤ length path) rows.now }
     requires once { IsTrue (none_twice rows.now) }
     ensures paths { IfOk result (λ found. found.0 ≡ row_paths (ordered_behind Short kept (counted_by rows.now times.now))) }
     ensures times { IfOk result (λ found. found.1 ≡ times_of (ordered_behind Short kept (counted_by rows.now times.now))) }
 {
-    let places = places_in_order(alloc, rows, kept)?;
-    let paths = paths_behind(alloc, rows, kept, places.as_slice())?;
-    let ordered = times_behind(alloc, times, kept, places.as_slice())?;
+    let mut paths = first_paths(alloc, rows, kept)?;
+    let mut ordered = first_times(alloc, times, kept)?;
+    add_others(alloc, kept, rows, times, &mut paths, &mut ordered)?;
     Ok((paths, ordered))
 }
 
@@ -150,6 +176,7 @@ fn rows_in_order(
     requires same { length times ≡ length rows }
     requires few { length rows ≤ max_paths }
     requires short { sum_by length rows ≤ max_numbers }
+    requires several { All (λ path. 2 ≤ length path) rows }
     requires once { IsTrue (none_twice rows) }
     ensures paths { IfOk result (λ found. found.0 ≡ row_paths (ordered_behind order kept (counted_by rows times))) }
     ensures times { IfOk result (λ found. found.1 ≡ times_of (ordered_behind order kept (counted_by rows times))) }

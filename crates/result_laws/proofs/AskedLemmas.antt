@@ -1,43 +1,40 @@
 -- With one given more, of an open edge, exactly those edges are forced that weren't which its provider forces.
-use Rattle.std.proofs.Common.{◌≡◌, ◌↔◌, ◌⊎◌, inl, inr, ℕ, zero, suc, ◌<◌, Bool, true, false, List, [], ◌∷◌, ◌++◌, Option, Some, map, length, is_none, refl, sym}
+use Rattle.std.proofs.Common.{◌≡◌, ◌↔◌, inl, inr, ℕ, zero, suc, ◌<◌, Bool, true, false, List, [], ◌∷◌, ◌++◌, Option, Some, map, filter, is_none, refl, sym}
 use Rattle.std.proofs.Common.{ap, ◌∙◌, subst, arith, All, Contains, IsTrue}
-use Rattle.std.specs.Prelude.{slice_get, if◌then◌else◌}
-use Rattle.std.specs.List.{items_where_true}
+use Rattle.std.specs.Prelude.{slice_get}
 use Rattle.std.proofs.lemmas.Bool.{cases_Bool, false≢true}
 use Rattle.std.proofs.lemmas.Option.{same_Some, get_or_from_slice_get}
 use Rattle.std.proofs.lemmas.List.Sorted.{Contains-permutation, IsPermutation-sym}
-use Rattle.std.proofs.lemmas.List.Elements.{All-append, All-cons, All-nil, All-contains, All-from_recursion, recursion_from_All, Contains-append_left}
+use Rattle.std.proofs.lemmas.List.Elements.{All-append, All-contains, All-contains_itself, All-filter, All-from_recursion, All-weaker, filter_passes, recursion_from_All}
 use Rattle.tor_arena.proofs.Gets.{has-from_Contains, Contains-from_has, slice_get-map, slice_get-unmap, Contains-map}
 use Rattle.tor_digraph.specs.Closing.{Has, IsOnce}
 use Rattle.relationships.specs.declared.label.End.{End}
 use Rattle.relationships.specs.declared.given.Given.{Given}
-use Rattle.relationships.specs.declared.mark.Mark.{Mark}
 use Rattle.relationships.specs.declared.walk.Walk.{Walk}
 use Rattle.relationships.specs.Relationship.{Orientation, labels_of, ValleyFree, Serves}
 use Rattle.relationships.specs.Graph.{Edge, edge_of, edges}
 use Rattle.relationships.specs.Evidence.{NeighboursDiffer, paths_of, kept_from}
-use Rattle.relationships.specs.Givens.{names_edge, return_of, returns, end_by, LabelsSay, NameTwo}
+use Rattle.relationships.specs.Givens.{names_edge, return_of, returns, end_by, NameTwo}
 use Rattle.relationships.specs.Checking.{kept_of}
 use Rattle.relationships.specs.Marking.{is_forced}
 use Rattle.relationships.specs.Selection.{IsForced, KeepsFrom}
 use Rattle.relationships.proofs.Checked.{kept_all}
-use Rattle.relationships.proofs.GivenLemmas.{all_parts, any_there, over_end, return_free, return_holds, returns_differ, with_return}
+use Rattle.relationships.proofs.GivenLemmas.{all_parts, any_there, over_end, return_free, return_holds, returns_differ}
 use Rattle.relationships.proofs.Selecting.{paths_of-kept_from, selection_behind_law}
 use Rattle.order_trials.proofs.Ordering.{rising}
 use Rattle.result_text.specs.declared.file.EdgeLine.{EdgeLine}
-use Rattle.rel_infer.specs.GivenInference.{IsInferredWith}
 use Rattle.tor_numbers.specs.Edges.{edge_at}
-use Rattle.ties.specs.Tied.{AreMarks, open_from}
-use Rattle.ties.specs.Parts.{IsOpen}
+use Rattle.top_givens.proofs.Members.{in_filter, unmapped}
+use Rattle.ties.specs.Tied.{open_from}
 use Rattle.asks.specs.declared.ask.Ask.{Ask}
 use Rattle.asks.specs.declared.table.AskLine.{AskLine}
-use Rattle.asks.specs.Asks.{IsForcedBy, IsOpenOf, AreForcedBy, ForcesSoMany, IsAsk, AreAsksBy, AreAskLinesOf, ask_line_of}
+use Rattle.asks.specs.Asks.{IsForcedBy, AreForcedBy, ForcesSoMany, IsAsk, AreAsksBy, ask_line_of}
 use Rattle.asks.proofs.Opens.{open_of_place}
 use Rattle.asks.proofs.Counted.{edges_once, edge_of_mark, open_unforced}
 use Rattle.asks.proofs.Uniqueness.{as_long}
-use Rattle.result_laws.specs.Asked.{newly_forced, number_if, ForcesAsSaid, GivenAskLaw}
-use Rattle.result_laws.proofs.KeptLemmas.{Within, keeps_behind_more}
-use Rattle.result_laws.proofs.PossibleLemmas.{either_end, edge_apart, given_held, returns_with}
+use Rattle.result_laws.specs.Asked.{AreWithGiven, newly_forced, number_if, GivenAskLaw}
+use Rattle.result_laws.proofs.KeptLemmas.{Within, keeps_behind_more, serves_fewer, within-append}
+use Rattle.result_laws.proofs.PossibleLemmas.{either_end, edge_apart, given_held}
 
 -- ---- what two lists of lines say
 
@@ -206,8 +203,25 @@ module _ (es : List Edge) (once : IsOnce es) (ls ms : List EdgeLine) (first : ma
 
 -- ---- one given more
 
-module _ (givens : List Given) (paths : List (List ℕ)) (walks : List (Option Walk)) (differ : All NeighboursDiffer paths) (two : NameTwo givens) (g : Given)
-    (low high : ℕ) (lt : low < high) (of_line : edge_of g.over g.under ≡ (low, high)) (named : names_edge paths g ≡ true)
+-- a return is that of a given whose two are neighbours on the paths
+pub return_there : (paths : List (List ℕ)) (givens : List Given) (g : Given) → Contains givens g → names_edge paths g ≡ true → Contains (returns paths givens) (return_of g)
+return_there paths givens g c named =
+    Contains-map return_of (filter (names_edge paths) givens) g (in_filter (names_edge paths) givens g c named)
+
+pub return_from : (paths : List (List ℕ)) (givens : List Given) (p : List ℕ) → Contains (returns paths givens) p →
+    (g : Given) × Contains givens g × (names_edge paths g ≡ true) × (return_of g ≡ p)
+return_from paths givens p c =
+    let some = filter (names_edge paths) givens in
+    let u = unmapped return_of some p c in
+    let all = All-filter (names_edge paths) (Contains givens) givens (All-contains_itself givens) in (
+      u.0,
+      All-contains (Contains givens) some u.0 all u.1,
+      All-contains (λ g. names_edge paths g ≡ true) some u.0 (filter_passes (names_edge paths) givens) u.1,
+      u.2,
+    )
+
+module _ (givens more : List Given) (paths : List (List ℕ)) (walks : List (Option Walk)) (differ : All NeighboursDiffer paths) (two : NameTwo givens) (g : Given)
+    (says : AreWithGiven givens g more) (low high : ℕ) (lt : low < high) (of_line : edge_of g.over g.under ≡ (low, high)) (named : names_edge paths g ≡ true)
     (keeps : KeepsFrom (returns paths givens) paths (map is_none walks)) where
   abbrev kept : List (List ℕ)
   kept = paths_of (kept_of paths walks)
@@ -215,35 +229,40 @@ module _ (givens : List Given) (paths : List (List ℕ)) (walks : List (Option W
   abbrev served : List (List ℕ)
   served = returns paths givens ++ kept
 
-  abbrev more : List (List ℕ)
-  more = returns paths (givens ++ g ∷ []) ++ kept
+  abbrev served_next : List (List ℕ)
+  served_next = returns paths more ++ kept
 
   abbrev end : End
   end = end_by g.over g.under
 
-  parts : returns paths (givens ++ g ∷ []) ≡ returns paths givens ++ return_of g ∷ []
-  parts = returns_with paths givens g ∙ ap (λ l. returns paths givens ++ l) (with_return paths g [] named)
+  within : Within (returns paths givens) (returns paths more)
+  within p c =
+      let r = return_from paths givens p c in
+      subst (Contains (returns paths more)) r.3 (return_there paths more r.0 ((says r.0).1 (inl r.1)) r.2)
 
-  has_end : (O : Orientation) → LabelsSay (labels_of O) g → O low high ≡ end
-  has_end O says = subst (λ (e : Edge). O e.0 e.1 ≡ end) of_line (over_end O g.over g.under says)
-
-  pub served_more : (O : Orientation) → Serves O more → Serves O served × (O low high ≡ end)
+  pub served_more : (O : Orientation) → Serves O served_next → Serves O served × (O low high ≡ end)
   served_more O serves =
-      let all = all_parts (ValleyFree (labels_of O)) (returns paths (givens ++ g ∷ [])) kept serves in
-      let begun = all_parts (ValleyFree (labels_of O)) (returns paths givens) (return_of g ∷ []) (subst (Serves O) parts all.0) in (
-        All-append (ValleyFree (labels_of O)) (returns paths givens) kept begun.0 all.1,
-        has_end O (return_holds (labels_of O) g (begun.1 0 (return_of g) (omega (arith)))),
+      let all = all_parts (ValleyFree (labels_of O)) (returns paths more) kept serves in
+      let new = All-contains (ValleyFree (labels_of O)) (returns paths more) (return_of g) all.0 (return_there paths more g ((says g).1 (inr refl)) named) in
+      let over = over_end O g.over g.under (return_holds (labels_of O) g new) in (
+        serves_fewer O served served_next (within-append (returns paths givens) kept (returns paths more) kept within (λ p c. c)) serves,
+        subst (λ (e : Edge). O e.0 e.1 ≡ end) of_line over,
       )
 
-  pub more_served : (O : Orientation) → Serves O served → O low high ≡ end → Serves O more
+  pub more_served : (O : Orientation) → Serves O served → O low high ≡ end → Serves O served_next
   more_served O serves is =
       let all = all_parts (ValleyFree (labels_of O)) (returns paths givens) kept serves in
-      let says = given_held O g (edge_apart g.over g.under low high lt of_line) low high of_line is in
-      All-append (ValleyFree (labels_of O)) (returns paths (givens ++ g ∷ [])) kept
-      (subst (Serves O) (sym parts) (All-append (ValleyFree (labels_of O)) (returns paths givens) (return_of g ∷ []) all.0
-      (All-cons (ValleyFree (labels_of O)) (return_of g) [] (return_free (labels_of O) g says) (All-nil (ValleyFree (labels_of O)))))) all.1
+      let holds = given_held O g (edge_apart g.over g.under low high lt of_line) low high of_line is in
+      let free : (p : List ℕ) → Contains (returns paths more) p → ValleyFree (labels_of O) p = λ p c.
+      let r = return_from paths more p c in
+      elim ((says r.0).0 r.1) [
+        | inl old ↦ All-contains (ValleyFree (labels_of O)) (returns paths givens) p all.0 (subst (Contains (returns paths givens)) r.3 (return_there paths givens r.0 old r.2))
+        | inr same ↦ subst (ValleyFree (labels_of O)) r.3 (subst (λ (h : Given). ValleyFree (labels_of O) (return_of h)) (sym same) (return_free (labels_of O) g holds))
+      ] in
+      All-append (ValleyFree (labels_of O)) (returns paths more) kept
+      (All-weaker (Contains (returns paths more)) (ValleyFree (labels_of O)) free (returns paths more) (All-contains_itself (returns paths more))) all.1
 
-  pub forced_more : (f : Edge) → IsForced more f.0 f.1 ↔ IsForcedBy served (low, high) end f
+  pub forced_more : (f : Edge) → IsForced served_next f.0 f.1 ↔ IsForcedBy served (low, high) end f
   forced_more f = (
     λ forced O O' s s' is is'. forced O O' (more_served O s is) (more_served O' s' is'),
     λ forced O O' s s'. (let p = served_more O s in let q = served_more O' s' in forced O O' p.0 q.0 p.1 q.1),
@@ -255,29 +274,27 @@ module _ (givens : List Given) (paths : List (List ℕ)) (walks : List (Option W
       (All-from_recursion NeighboursDiffer kept (kept_all NeighboursDiffer 1 paths (map is_none walks) (recursion_from_All NeighboursDiffer paths differ)))
 
   -- the same paths are kept
-  pub same_keeps : (IsForced served low high → ⊥) → (flags : List Bool) → KeepsFrom (returns paths (givens ++ g ∷ [])) paths flags → flags ≡ map is_none walks
+  pub same_keeps : (IsForced served low high → ⊥) → (flags : List Bool) → KeepsFrom (returns paths more) paths flags → flags ≡ map is_none walks
   same_keeps is_open flags theirs =
       let w = either_end served low high served_differ lt is_open end in
       let same = paths_of-kept_from 1 paths (map is_none walks) in
-      let within : Within (returns paths givens) (returns paths (givens ++ g ∷ [])) =
-      subst (Within (returns paths givens)) (sym parts) (λ p c. Contains-append_left (returns paths givens) (return_of g ∷ []) p c) in
-      let ours = keeps_behind_more w.0 (returns paths givens) (returns paths (givens ++ g ∷ [])) paths (map is_none walks) within keeps
-      (subst (λ ps. Serves w.0 (returns paths (givens ++ g ∷ []) ++ ps)) same (more_served w.0 w.1 w.2)) in
-      sym ((selection_behind_law (returns paths (givens ++ g ∷ [])) paths (map is_none walks) ours).0 flags theirs)
+      let ours = keeps_behind_more w.0 (returns paths givens) (returns paths more) paths (map is_none walks) within keeps
+      (subst (λ ps. Serves w.0 (returns paths more ++ ps)) same (more_served w.0 w.1 w.2)) in
+      sym ((selection_behind_law (returns paths more) paths (map is_none walks) ours).0 flags theirs)
 
 -- ---- the line of an edge
 
 -- what a line says of its edge, where the paths of `served` are served
-record IsSaid (served : List (List ℕ)) (paths : List (List ℕ)) (line : AskLine) : Type 0 where
-  place : ℕ
-  at : slice_get (edges paths) place ≡ Some (line.low, line.high)
-  unforced : IsForced served line.low line.high → ⊥
-  low : ForcesSoMany served (edges paths) (line.low, line.high) End.Low line.if_low
-  high : ForcesSoMany served (edges paths) (line.low, line.high) End.High line.if_high
+pub record IsSaid (served : List (List ℕ)) (paths : List (List ℕ)) (line : AskLine) : Type 0 where
+  pub place : ℕ
+  pub at : slice_get (edges paths) place ≡ Some (line.low, line.high)
+  pub unforced : IsForced served line.low line.high → ⊥
+  pub low : ForcesSoMany served (edges paths) (line.low, line.high) End.Low line.if_low
+  pub high : ForcesSoMany served (edges paths) (line.low, line.high) End.High line.if_high
 
-said_by : (served paths : List (List ℕ)) (asks : List Ask) (line : AskLine) → AreAsksBy paths served asks →
+pub said_of_line : (served paths : List (List ℕ)) (asks : List Ask) (line : AskLine) → AreAsksBy paths served asks →
     Contains (map (ask_line_of (edges paths)) asks) line → IsSaid served paths line
-said_by served paths asks line by there =
+said_of_line served paths asks line by there =
     let es = edges paths in
     let h = has-from_Contains (map (ask_line_of es) asks) line there in
     let u = slice_get-unmap (ask_line_of es) asks h.0 line h.1 in
@@ -308,24 +325,24 @@ number_of served paths line s End.Low = s.low
 number_of served paths line s End.High = s.high
 
 pub given_ask_law : GivenAskLaw
-given_ask_law givens ratio paths asked line g walks walks' lines lines' whys whys' probes probes' differ two are there of_line i i' =
+given_ask_law givens more ratio paths asked line g walks walks' lines lines' whys whys' probes probes' differ two are there of_line says i i' =
     let flags = (selection_behind_law (returns paths givens) paths (map is_none walks) i.kept).0 are.1.keeps are.1.kept in
     let served = returns paths givens ++ paths_of (kept_of paths walks) in
     let by = subst (λ bs. AreAsksBy paths (returns paths givens ++ paths_of (kept_from 1 paths bs)) are.0) (sym flags) are.1.by in
-    let s = said_by served paths are.0 line by (subst (λ (ls : List AskLine). Contains ls line) are.2 there) in
+    let s = said_of_line served paths are.0 line by (subst (λ (ls : List AskLine). Contains ls line) are.2 there) in
     let lt = rising paths differ s.place (line.low, line.high) s.at in
     let named = any_there (edges paths) (edge_of g.over g.under) (subst (Contains (edges paths)) (sym of_line)
     (Contains-from_has (edges paths) (line.low, line.high) (s.place, s.at))) in
-    let kept = same_keeps givens paths walks differ two g line.low line.high lt of_line named i.kept s.unforced (map is_none walks') i'.kept in
-    let more = returns paths (givens ++ g ∷ []) ++ paths_of (kept_of paths walks) in
+    let kept = same_keeps givens more paths walks differ two g says line.low line.high lt of_line named i.kept s.unforced (map is_none walks') i'.kept in
+    let next = returns paths more ++ paths_of (kept_of paths walks) in
     let end = end_by g.over g.under in
     let P : Edge → Type 0 = λ f. IsForced served f.0 f.1 in
-    let Q : Edge → Type 0 = λ f. IsForced more f.0 f.1 in
+    let Q : Edge → Type 0 = λ f. IsForced next f.0 f.1 in
     let later : All (Marks Q) lines' =
-    subst (λ bs. All (Marks (λ f. IsForced (returns paths (givens ++ g ∷ []) ++ paths_of (kept_from 1 paths bs)) f.0 f.1)) lines') kept i'.forced in
+    subst (λ bs. All (Marks (λ f. IsForced (returns paths more ++ paths_of (kept_from 1 paths bs)) f.0 f.1)) lines') kept i'.forced in
     let once = edges_once paths in
     let exact = newly_exact (edges paths) once lines lines' i.edges_listed i'.edges_listed P Q i.forced later in
-    let by_end = forced_more givens paths walks differ two g line.low line.high lt of_line named i.kept in
+    let by_end = forced_more givens more paths walks differ two g says line.low line.high lt of_line named i.kept in
     let these : AreForcedBy served (edges paths) (line.low, line.high) end (newly_forced lines lines') = record {
       once = newly_is_once (edges paths) once lines lines' i.edges_listed i'.edges_listed P Q i.forced later;
       exact = λ f. (

@@ -1,5 +1,5 @@
 -- What one given more does, for an open edge of which it was asked how many edges either provider forces.
-use Rattle.std.specs.Prelude.{◌≡◌, ℕ, List, [], ◌∷◌, ◌++◌, Option, Some, slice_get, length, map, is_none, All, Contains, IsTrue}
+use Rattle.std.specs.Prelude.{◌≡◌, ◌⊎◌, ◌↔◌, ℕ, List, [], ◌∷◌, ◌++◌, Option, Some, slice_get, length, map, is_none, All, Contains, IsTrue}
 use Rattle.std.specs.Prelude.{if◌then◌else◌}
 use Rattle.relationships.specs.declared.label.End.{End}
 use Rattle.relationships.specs.declared.given.Given.{Given}
@@ -36,14 +36,18 @@ pub record ForcesAsSaid (served : List (List ℕ)) (es : List Edge) (e : Edge) (
   pub these : AreForcedBy served es e end (newly_forced lines lines')
   pub many : length (newly_forced lines lines') ≡ n
 
+-- the second givens are the first and this one, in whatever order
+abbrev pub AreWithGiven : List Given → Given → List Given → Type 0
+AreWithGiven givens given more = (g : Given) → Contains more g ↔ (Contains givens g ⊎ (g ≡ given))
+
 -- with one given more, of an edge that has a line, as many edges are forced as the line says of the given's provider
 abbrev pub GivenAskLaw : Type 0
 GivenAskLaw =
-    (givens : List Given) (ratio : ℕ) (paths : List (List ℕ)) (asked : List AskLine) (line : AskLine) (given : Given)
+    (givens more : List Given) (ratio : ℕ) (paths : List (List ℕ)) (asked : List AskLine) (line : AskLine) (given : Given)
     (walks walks' : List (Option Walk)) (lines lines' : List EdgeLine) (whys whys' : List Walk) (probes probes' : List (ℕ × ℕ)) →
     All NeighboursDiffer paths → NameTwo givens → AreAskLinesOf givens paths asked → Contains asked line →
-    edge_of given.over given.under ≡ (line.low, line.high) →
+    edge_of given.over given.under ≡ (line.low, line.high) → AreWithGiven givens given more →
     IsInferredWith givens ratio paths walks lines whys probes →
-    IsInferredWith (givens ++ given ∷ []) ratio paths walks' lines' whys' probes' →
+    IsInferredWith more ratio paths walks' lines' whys' probes' →
     ForcesAsSaid (returns paths givens ++ paths_of (kept_of paths walks)) (edges paths) (line.low, line.high)
     (end_by given.over given.under) (number_if line (end_by given.over given.under)) walks walks' lines lines'

@@ -22,8 +22,8 @@ pub fn given_open_law()
     ensures { GivenOpenLaw }
 {}
 
-/// With one given more, of an edge that `tor --ask` has a line of, the same paths are kept, and exactly those edges are forced that weren't
-/// which the given's provider forces: as many as the line says.
+/// With one given more, wherever it stands among them, of an edge that `tor --ask` has a line of, the same paths are kept, and exactly those
+/// edges are forced that weren't which the given's provider forces: as many as the line says.
 pub fn given_ask_law()
     ensures { GivenAskLaw }
 {}

@@ -7,3 +7,7 @@ mod TableDumpVectors
 mod Vectors
 pub mod FaultLemmas
 pub mod FaultLaws
+pub mod PeerLoops
+pub mod MaskLemmas
+pub mod ValueEncodings
+mod ValueVectors

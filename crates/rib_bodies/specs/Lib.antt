@@ -5,3 +5,7 @@ pub mod Rib
 pub mod Encoding
 pub mod Reading
 pub mod Faults
+pub mod Addresses
+pub mod Peers
+pub mod Origins
+pub mod ValueEncoding

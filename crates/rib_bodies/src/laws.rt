@@ -2,6 +2,7 @@
 ghost use Rattle.rib_bodies.specs.Encoding.{PeerTableLaw, RibLaw};
 ghost use Rattle.rib_bodies.specs.Faults.{CutFaultLaw, TailFaultLaw};
 ghost use Rattle.rib_bodies.specs.TableDumpEncoding.{TableDumpLaw};
+ghost use Rattle.rib_bodies.specs.ValueEncoding.{NamedPeersLaw, OriginLaw};
 
 /// A body gives a route of these attributes exactly if it is the encoding of a TABLE_DUMP record with them (RFC 6396, section 4.2).
 pub fn table_dump_law()
@@ -24,4 +25,16 @@ pub fn rib_law()
 pub fn fault_law()
     ensures tail { TailFaultLaw }
     ensures cut { CutFaultLaw }
+{}
+
+/// A body names these peers exactly if it is the encoding of a peer table with them, and a table has as many peers as it names (RFC 6396,
+/// section 4.3.1).
+pub fn named_peers_law()
+    ensures { NamedPeersLaw }
+{}
+
+/// The prefix of a RIB, and the prefix and the peer of a TABLE_DUMP record, are those of the fields of its body (RFC 6396, sections 4.2
+/// and 4.3.2; RFC 8050, section 4).
+pub fn origin_law()
+    ensures { OriginLaw }
 {}

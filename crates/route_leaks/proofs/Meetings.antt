@@ -1,9 +1,10 @@
 -- Paths beside the first ones of a table, which have fates.
 use Rattle.std.proofs.Common.{◌≡◌, ◌↔◌, ℕ, zero, suc, ◌+◌, ◌<◌, ◌≤◌, inl, inr, ◌⊎◌, Bool, true, false, not, ◌||◌, ◌&&◌, List, [], ◌∷◌, ◌++◌, length, get_or, map, filter, take, drop, Option, Some, None, option_map, unwrap_or, is_none}
 use Rattle.std.proofs.Common.{slice_get, bytes_eq, cond, if◌then◌else◌, refl, sym, ap, ap₂, ◌∙◌, subst, arith, append_assoc, append-nil, All}
-use Rattle.std.specs.Prelude.{count_by, fold, sum_by}
+use Rattle.std.specs.Prelude.{count_by, fold, nat_lt, sum_by}
 use Rattle.std.specs.List.{list_all}
-use Rattle.std.proofs.lemmas.Bool.{cases_Bool}
+use Rattle.std.proofs.lemmas.Bool.{cases_Bool, le-ltb, lt-ltb}
+use Rattle.tor_arena.specs.Limits.{max_paths, max_numbers}
 use Rattle.std.proofs.lemmas.List.{length-append, length-map, map-append, take-append-drop, take-append-le}
 use Rattle.std.proofs.lemmas.List.Elements.{All-head, All-tail, All-weaker, All-push, filter-append}
 use Rattle.std.proofs.lemmas.Option.{slice_get-get_or, slice_get_within}
@@ -13,13 +14,15 @@ use Rattle.relationships.specs.declared.fate.Fate.{Fate}
 use Rattle.relationships.specs.Evidence.{paths_of, kept_from}
 use Rattle.relationships.specs.Fates.{walk_of, is_kept}
 use Rattle.path_clean.specs.Paths.{is_cleaned}
-use Rattle.path_table.specs.Rows.{Counted, none_twice, numbers_in, row_paths, times_of}
+use Rattle.path_table.specs.declared.table.AddRefused.{AddRefused}
+use Rattle.path_table.specs.declared.table.AddRefused.TheVariants.{TooManyPaths, TooManyNumbers, NoMemory}
+use Rattle.path_table.specs.Rows.{Counted, Table, none_twice, numbers_in, row_paths, times_of}
 use Rattle.path_table.specs.Chains.{row_at}
-use Rattle.path_table.specs.Table.{place_of}
+use Rattle.path_table.specs.Table.{place_of, HasNumbersTooMany, IsPathTooMany}
 use Rattle.path_table.proofs.TableLemmas.{eq_true}
 use Rattle.route_leaks.specs.declared.meeting.Sighting.{Sighting}
-use Rattle.route_leaks.specs.Inside.{is_kept_in, not_kept_in}
-use Rattle.route_leaks.specs.Leaks.{is_one_of, row_met, with_new}
+use Rattle.route_leaks.specs.Inside.{is_kept_in, not_kept_in, FitLimits}
+use Rattle.route_leaks.specs.Leaks.{first_passed, is_one_of, limit_beside, limit_passed, row_met, with_new}
 
 -- ---- what the place of a path says
 
@@ -195,19 +198,87 @@ row_met_there paths place times path at = ap (λ (o : Option (List ℕ)). record
 -- ---- all so far are among all
 
 module _ (paths others : List (List ℕ)) (k : ℕ) where
-  on_from : (more : List (List ℕ)) × (fold with_new paths others ≡ fold with_new paths (take k others) ++ more)
-  on_from =
-      let (more, are) = all_behind (fold with_new paths (take k others)) (drop k others) in
-      (more, sym (ap (fold with_new paths) (take-append-drop k others)) ∙ fold-append with_new paths (take k others) (drop k others) ∙ are)
-
-  pub length_on : length (fold with_new paths (take k others)) ≤ length (fold with_new paths others)
-  length_on = let (more, are) = on_from in let sum = ap length are in omega (arith, sum, length-append (fold with_new paths (take k others)) more)
-
-  pub numbers_on : sum_by length (fold with_new paths (take k others)) ≤ sum_by length (fold with_new paths others)
-  numbers_on = let (more, are) = on_from in let sum = ap (sum_by length) are in omega (arith, sum, sum_by-append length (fold with_new paths (take k others)) more)
-
   pub next_on : (path : List ℕ) → slice_get others k ≡ Some path → fold with_new paths (take (k + 1) others) ≡ with_new (fold with_new paths (take k others)) path
   next_on path at = ap (fold with_new paths) (take_get others k path at) ∙ fold_push with_new paths (take k others) path
+
+-- ---- limits
+
+pub none_passed : (paths : List (List ℕ)) → FitLimits paths → limit_passed paths ≡ None
+none_passed paths fit =
+    let few : nat_lt max_paths (length paths) ≡ false = le-ltb max_paths (length paths) fit.0 in
+    let short : nat_lt max_numbers (sum_by length paths) ≡ false = le-ltb max_numbers (sum_by length paths) fit.1 in
+    rw few (rw short refl)
+
+pub paths_passed : (paths : List (List ℕ)) → max_paths < length paths → limit_passed paths ≡ Some TooManyPaths
+paths_passed paths many = let more : nat_lt max_paths (length paths) ≡ true = lt-ltb max_paths (length paths) many in rw more refl
+
+pub numbers_passed : (paths : List (List ℕ)) → length paths ≤ max_paths → max_numbers < sum_by length paths → limit_passed paths ≡ Some TooManyNumbers
+numbers_passed paths few long =
+    let none : nat_lt max_paths (length paths) ≡ false = le-ltb max_paths (length paths) few in
+    let more : nat_lt max_numbers (sum_by length paths) ≡ true = lt-ltb max_numbers (sum_by length paths) long in
+    rw none (rw more refl)
+
+-- why a table doesn't take a path
+pub passed_by : (table : Table) (path : List ℕ) (why : AddRefused) → table.limit ≡ max_paths → (why ≡ TooManyPaths → IsPathTooMany table path) →
+    (why ≡ TooManyNumbers → HasNumbersTooMany table path) → (why ≡ NoMemory) ⊎ (limit_passed (with_new (row_paths table.rows) path) ≡ Some why)
+passed_by table path TooManyPaths limit paths numbers =
+    let many = paths refl in
+    let full = many.1 in
+    let new = ap length (with_unknown (row_paths table.rows) path (none_of_place table.rows path many.0)) in
+    inr (paths_passed (with_new (row_paths table.rows) path)
+    (omega (arith, full, limit, new, length-append (row_paths table.rows) (path ∷ []), length-map table.rows (λ (row : Counted). row.path))))
+passed_by table path TooManyNumbers limit paths numbers =
+    let many = numbers refl in
+    let few = many.1 in
+    let over = many.2 in
+    let unknown = with_unknown (row_paths table.rows) path (none_of_place table.rows path many.0) in
+    let new = ap length unknown in
+    let sum = ap (sum_by length) unknown in
+    inr (numbers_passed (with_new (row_paths table.rows) path)
+    (omega (arith, few, limit, new, length-append (row_paths table.rows) (path ∷ []), length-map table.rows (λ (row : Counted). row.path)))
+    (omega (arith, over, sum, numbers_same table.rows, sum_by-append length (row_paths table.rows) (path ∷ []), sum_by-cons length path [])))
+passed_by table path NoMemory limit paths numbers = inl refl
+
+-- what fits with others behind it, fits
+fit_before : (paths more : List (List ℕ)) → FitLimits (paths ++ more) → FitLimits paths
+fit_before paths more fit = (
+  (let le = fit.0 in omega (arith, le, length-append paths more)),
+  (let le = fit.1 in omega (arith, le, sum_by-append length paths more)),
+)
+
+fit_first : (paths others : List (List ℕ)) → FitLimits (fold with_new paths others) → FitLimits paths
+fit_first paths others fit = let (more, are) = all_behind paths others in fit_before paths more (subst FitLimits are fit)
+
+-- where all others fit beside the paths, no limit is passed
+pub none_beside : (paths others : List (List ℕ)) → FitLimits (fold with_new paths others) → limit_beside paths others ≡ None
+none_beside paths [] fit = refl
+none_beside paths (other ∷ others) fit =
+    let here = none_passed (with_new paths other) (fit_first (with_new paths other) others fit) in
+    ap (λ (o : Option AddRefused). first_passed o (limit_beside (with_new paths other) others)) here ∙ none_beside (with_new paths other) others fit
+
+-- where those before one fit, and with it a limit is passed, this is the first
+pub passed_at : (paths others : List (List ℕ)) (k : ℕ) (path : List ℕ) (why : AddRefused) → slice_get others k ≡ Some path → FitLimits (fold with_new paths (take k others)) →
+    limit_passed (with_new (fold with_new paths (take k others)) path) ≡ Some why → limit_beside paths others ≡ Some why
+passed_at paths [] k path why at fit passed = absurd (none k at)
+  where
+    none : (k : ℕ) → ◌≡◌ {A = Option (List ℕ)} (slice_get [] k) (Some path) → ⊥
+    none zero e = cc
+    none (suc k) e = cc
+passed_at paths (other ∷ others) zero path why at fit passed =
+    let same : other ≡ path = some_path other path at in
+    let here = ap (λ (p : List ℕ). limit_passed (with_new paths p)) same ∙ passed in
+    ap (λ (o : Option AddRefused). first_passed o (limit_beside (with_new paths other) others)) here
+  where
+    some_path : (x y : List ℕ) → Some x ≡ Some y → x ≡ y
+    some_path x y e = cc
+passed_at paths (other ∷ others) (suc k) path why at fit passed =
+    let here = none_passed (with_new paths other) (fit_first (with_new paths other) (take k others) fit) in
+    ap (λ (o : Option AddRefused). first_passed o (limit_beside (with_new paths other) others)) here ∙ passed_at (with_new paths other) others k path why at fit passed
+
+pub first_met : (paths others : List (List ℕ)) (k : ℕ) (path : List ℕ) (why : AddRefused) → slice_get others k ≡ Some path → FitLimits (fold with_new paths (take k others)) →
+    (why ≡ NoMemory) ⊎ (limit_passed (with_new (fold with_new paths (take k others)) path) ≡ Some why) → (why ≡ NoMemory) ⊎ (limit_beside paths others ≡ Some why)
+first_met paths others k path why at fit (inl memory) = inl memory
+first_met paths others k path why at fit (inr passed) = inr (passed_at paths others k path why at fit passed)
 
 -- ---- the clean paths of a table
 

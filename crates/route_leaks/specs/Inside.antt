@@ -1,6 +1,7 @@
 -- Words of the crate's own, which no reader of a public clause needs.
-use Rattle.std.specs.Prelude.{◌≡◌, ℕ, ◌+◌, ◌==◌, Bool, not, List, length, map, filter, take, if◌then◌else◌}
+use Rattle.std.specs.Prelude.{◌≡◌, ◌≤◌, ℕ, ◌+◌, ◌==◌, Bool, not, List, length, map, filter, take, sum_by, if◌then◌else◌}
 use Rattle.std.specs.List.{AllZip}
+use Rattle.tor_arena.specs.Limits.{max_paths, max_numbers}
 use Rattle.relationships.specs.declared.fate.Fate.{Fate}
 use Rattle.relationships.specs.declared.walk.Link.{Link}
 use Rattle.relationships.specs.declared.walk.Walk.{Walk}
@@ -24,6 +25,10 @@ is_kept_in paths fates path = is_one_of (paths_of (kept_of (take (length fates) 
 -- the rows whose paths are no kept ones of these
 abbrev pub not_kept_in : List (List ℕ) → List Fate → List Counted → List Counted
 not_kept_in paths fates rows = filter (λ row. not (is_kept_in paths fates row.path)) rows
+
+-- paths pass no limit
+abbrev pub FitLimits : List (List ℕ) → Type 0
+FitLimits paths = (length paths ≤ max_paths) × (sum_by length paths ≤ max_numbers)
 
 -- ---- links
 

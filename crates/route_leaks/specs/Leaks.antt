@@ -1,9 +1,10 @@
 -- Which paths no labelling explains, behind a result. A route leak is an announcement beyond its intended scope (RFC 7908): its path goes
 -- up again behind a step down or flat. Which paths do so depends on who sells to whom. A path is called a leak here where the result does
 -- not keep it and it can't be right beside what the result keeps, whoever sells to whom.
-use Rattle.std.specs.Prelude.{◌≡◌, ◌↔◌, ℕ, ◌+◌, Bool, not, List, [], ◌∷◌, ◌++◌, length, map, filter, fold, count_by}
-use Rattle.std.specs.Prelude.{bytes_eq, if◌then◌else◌, IfSome, IsTrue}
+use Rattle.std.specs.Prelude.{◌≡◌, ◌↔◌, ℕ, ◌+◌, Bool, not, List, [], ◌∷◌, ◌++◌, length, map, filter, fold, count_by, sum_by}
+use Rattle.std.specs.Prelude.{bytes_eq, nat_lt, if◌then◌else◌, Option, None, Some, IfSome, IsTrue}
 use Rattle.std.specs.List.{AllZip, list_any}
+use Rattle.tor_arena.specs.Limits.{max_paths, max_numbers}
 use Rattle.relationships.specs.declared.fate.Fate.{Fate}
 use Rattle.relationships.specs.declared.walk.Walk.{Walk}
 use Rattle.relationships.specs.Relationship.{Orientation}
@@ -11,6 +12,8 @@ use Rattle.relationships.specs.Evidence.{paths_of}
 use Rattle.relationships.specs.Fates.{walk_of, is_kept}
 use Rattle.relationships.specs.Givens.{ServesWith}
 use Rattle.relationships.specs.GivenEvidence.{RefutesWith}
+use Rattle.path_table.specs.declared.table.AddRefused.{AddRefused}
+use Rattle.path_table.specs.declared.table.AddRefused.TheVariants.{TooManyPaths, TooManyNumbers}
 use Rattle.path_table.specs.Rows.{Counted, row_paths}
 use Rattle.path_table.specs.Chains.{row_at}
 use Rattle.result_text.specs.declared.file.ResultFile.{ResultFile}
@@ -74,6 +77,21 @@ with_new paths path = if is_one_of paths path then paths else paths ++ path ∷ 
 -- the paths of the result and those of dumps, each once: they have to find room beside each other
 abbrev pub joined_with : ResultFile → List Counted → List (List ℕ)
 joined_with file seen = fold with_new (its_paths file) (row_paths seen)
+
+-- the limit that paths are beyond: they are more than 2 ^ 23, or else they have more than 2 ^ 26 numbers in sum
+abbrev pub limit_passed : List (List ℕ) → Option AddRefused
+limit_passed paths =
+    if nat_lt max_paths (length paths) then Some TooManyPaths
+    else (if nat_lt max_numbers (sum_by length paths) then Some TooManyNumbers else None)
+
+abbrev pub first_passed : Option AddRefused → Option AddRefused → Option AddRefused
+first_passed None later = later
+first_passed (Some limit) later = Some limit
+
+-- the limit that others pass beside these paths, when they go there one after the other, the first one if they do
+abbrev pub limit_beside : List (List ℕ) → List (List ℕ) → Option AddRefused
+limit_beside paths [] = None
+limit_beside paths (other ∷ others) = first_passed (limit_passed (with_new paths other)) (limit_beside (with_new paths other) others)
 
 -- a path that was met, by its place among rows, with its times
 abbrev pub row_met : List (List ℕ) → Sighting → Counted

@@ -1,5 +1,5 @@
 //! The leaks among the paths of dumps.
-ghost use Rattle.std.specs.Prelude.{◌≡◌, ◌<◌, ◌≤◌, ◌+◌, [], All, Err, fold, length, map, sum_by, unwrap_or, IfOk};
+ghost use Rattle.std.specs.Prelude.{◌≡◌, ◌⊎◌, ◌<◌, ◌≤◌, ◌+◌, [], All, None, Some, length, map, sum_by, unwrap_or, IfErr, IfOk, OnOk};
 ghost use Rattle.tor_arena.specs.Distinct.{AllDistinct};
 ghost use Rattle.tor_arena.specs.Limits.{max_paths, max_numbers};
 ghost use Rattle.relationships.specs.Graph.{edges};
@@ -7,13 +7,13 @@ ghost use Rattle.tor_clauses.specs.Formulas.{IsServed};
 ghost use Rattle.path_table.specs.Rows.{row_paths};
 ghost use Rattle.result_text.specs.declared.file.ResultFile.{ResultFile as File};
 ghost use Rattle.result_rules.specs.Against.{its_rows};
-ghost use Rattle.result_rules.specs.File.{its_givens};
+ghost use Rattle.result_rules.specs.File.{its_givens, its_paths};
 ghost use Rattle.result_rules.specs.Rules.{Accepts};
 ghost use Rattle.rel_infer.specs.Earlier.{BeginsWithEarlier, BeginsWithPathsOf, IsRestOf};
 ghost use Rattle.rel_infer.specs.GivenInference.{max_givens};
 ghost use Rattle.as_rel.specs.Labelled.{line_of_edge};
 ghost use Rattle.route_leaks.specs.Inside.{AreTriedFates};
-ghost use Rattle.route_leaks.specs.Leaks.{AreFatesBehind, AreLeaksOf, joined_with, row_met, with_new};
+ghost use Rattle.route_leaks.specs.Leaks.{AreFatesBehind, AreLeaksOf, limit_beside, row_met};
 
 use crate::found::Leaks;
 use crate::meeting::{Meeting, Sighting, meet};
@@ -132,9 +132,9 @@ fn leaks_beside(
     requires first { length rest.now.fates ≡ length table.rows }
     ensures leaks { IfOk result (λ leaks. (file : File) → Accepts file → IsRestOf file rest.now → its_rows file ≡ table.rows →
         AreLeaksOf file seen leaks) }
-    ensures paths { result ≡ Err AddRefused.TooManyPaths → max_paths < length (fold with_new (row_paths table.rows) (row_paths seen)) }
-    ensures numbers { result ≡ Err AddRefused.TooManyNumbers →
-        max_numbers < sum_by length (fold with_new (row_paths table.rows) (row_paths seen)) }
+    ensures room { OnOk result (limit_beside (row_paths table.rows) (row_paths seen) ≡ None) }
+    ensures limit_met { IfErr result (λ why. (why ≡ AddRefused.NoMemory) ⊎
+        (limit_beside (row_paths table.rows) (row_paths seen) ≡ Some why)) }
 {
     let mut table = table;
     let met = meet(alloc, &mut table, &rest.fates, &seen);
@@ -159,8 +159,8 @@ fn leaks_beside(
 /// What is found of the distinct paths of dumps behind a result that meets all rules, with at most 2^28 givens: how many of them it keeps,
 /// and of each other, in order, whether it is a leak. It is one exactly where no orientation that agrees with the givens serves it together
 /// with all kept paths of the result, and then a walk refutes. No path's answer depends on another path of the dumps. TooManyPaths and
-/// TooManyNumbers: the paths of the result and of the dumps, each once, are more than 2^23, or have more than 2^26 numbers in sum.
-/// NoMemory: memory ran out.
+/// TooManyNumbers: the paths of the result and of the dumps, each once and one after the other, first pass this limit, of 2^23 paths or of
+/// 2^26 numbers in sum. NoMemory: memory ran out.
 pub fn leaks_of(
     alloc: Global,
     keys: Keys,
@@ -170,8 +170,8 @@ pub fn leaks_of(
     requires accepted { Accepts file }
     requires few { length (its_givens file) ≤ max_givens }
     ensures leaks { IfOk result (AreLeaksOf file seen) }
-    ensures paths { result ≡ Err AddRefused.TooManyPaths → max_paths < length (joined_with file seen) }
-    ensures numbers { result ≡ Err AddRefused.TooManyNumbers → max_numbers < sum_by length (joined_with file seen) }
+    ensures room { OnOk result (limit_beside (its_paths file) (row_paths seen) ≡ None) }
+    ensures limit_met { IfErr result (λ why. (why ≡ AddRefused.NoMemory) ⊎ (limit_beside (its_paths file) (row_paths seen) ≡ Some why)) }
 {
     match take_up(alloc, keys, file, MAX_PATHS) {
         Ok(up) => leaks_beside(alloc, keys, up.table, &up.rest, seen),

@@ -1,12 +1,12 @@
 //! The paths of dumps beside those of a result.
-ghost use Rattle.std.specs.Prelude.{◌≡◌, ◌↔◌, ◌<◌, ◌≤◌, Err, None, All, count_by, fold, length, map, option_map, slice_get, sum_by};
-ghost use Rattle.std.specs.Prelude.{Some, unwrap_or, false, IfOk, IfSome, IsTrue, OnOk};
-ghost use Rattle.tor_arena.specs.Limits.{max_paths, max_numbers};
+ghost use Rattle.std.specs.Prelude.{◌≡◌, ◌↔◌, ◌⊎◌, ◌<◌, ◌≤◌, None, All, count_by, fold, length, map, option_map, slice_get};
+ghost use Rattle.std.specs.Prelude.{Some, unwrap_or, false, IfErr, IfOk, IfSome, IsTrue, OnOk};
+ghost use Rattle.tor_arena.specs.Limits.{max_paths};
 ghost use Rattle.relationships.specs.Fates.{is_kept};
 ghost use Rattle.path_clean.specs.Paths.{is_cleaned};
 ghost use Rattle.path_table.specs.Rows.{row_paths};
-ghost use Rattle.route_leaks.specs.Inside.{is_kept_in, not_kept_in};
-ghost use Rattle.route_leaks.specs.Leaks.{row_met, with_new};
+ghost use Rattle.route_leaks.specs.Inside.{is_kept_in, not_kept_in, FitLimits};
+ghost use Rattle.route_leaks.specs.Leaks.{limit_beside, limit_passed, row_met, with_new};
 
 use path_order::DistinctPaths;
 use path_table::{AddRefused, PathTable};
@@ -53,8 +53,9 @@ fn place_beside(
     ensures rows { OnOk result (row_paths table.new.rows ≡ with_new (row_paths table.old.rows) path.now) }
     ensures kept { IfOk result (λ place. (place ≡ None) ↔ IsTrue (is_kept_in (row_paths table.old.rows) fates.now path.now)) }
     ensures there { IfOk result (λ place. IfSome place (λ id. slice_get (row_paths table.new.rows) id ≡ Some path.now)) }
-    ensures paths { result ≡ Err AddRefused.TooManyPaths → max_paths < length (with_new (row_paths table.old.rows) path.now) }
-    ensures numbers { result ≡ Err AddRefused.TooManyNumbers → max_numbers < sum_by length (with_new (row_paths table.old.rows) path.now) }
+    ensures fit { FitLimits (row_paths table.old.rows) }
+    ensures limit_met { IfErr result (λ why. (why ≡ AddRefused.NoMemory) ⊎
+        (limit_passed (with_new (row_paths table.old.rows) path.now) ≡ Some why)) }
 {
     table.facts();
     match table.find(path) {
@@ -72,7 +73,7 @@ fn place_beside(
 }
 
 /// Which of the paths of dumps are no kept ones of the first paths of a table, which have these fates. Each that isn't in the table goes
-/// last there, with its times. It is refused where a path is, by `PathTable::add_times`.
+/// last there, with its times. TooManyPaths and TooManyNumbers: this limit is the first that the paths pass. NoMemory: memory ran out.
 pub(crate) fn meet(
     alloc: Global,
     table: &mut PathTable,
@@ -88,10 +89,9 @@ pub(crate) fn meet(
         not_kept_in (row_paths table.old.rows) fates.now seen.now) }
     ensures there { IfOk result (λ meeting. All (λ met. met.place < length table.new.rows) meeting.met) }
     ensures few { IfOk result (λ meeting. length meeting.met ≤ max_paths) }
-    ensures paths { result ≡ Err AddRefused.TooManyPaths →
-        max_paths < length (fold with_new (row_paths table.old.rows) (row_paths seen.now)) }
-    ensures numbers { result ≡ Err AddRefused.TooManyNumbers →
-        max_numbers < sum_by length (fold with_new (row_paths table.old.rows) (row_paths seen.now)) }
+    ensures room { OnOk result (limit_beside (row_paths table.old.rows) (row_paths seen.now) ≡ None) }
+    ensures limit_met { IfErr result (λ why. (why ≡ AddRefused.NoMemory) ⊎
+        (limit_beside (row_paths table.old.rows) (row_paths seen.now) ≡ Some why)) }
 {
     seen.facts();
     let rows = seen.rows();
@@ -117,5 +117,6 @@ pub(crate) fn meet(
             return Err(AddRefused::NoMemory);
         };
     }
+    table.facts();
     Ok(Meeting { known, met })
 }

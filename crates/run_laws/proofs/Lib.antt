@@ -1,10 +1,12 @@
 pub mod AcceptedGradings
 pub mod Agreeing
 pub mod AgreeingInAnyOrder
+pub mod AskRuns
 pub mod EqualLengths
 pub mod GrowingRuns
 pub mod Migrating
 pub mod JoinedResults
+pub mod MoreLines
 pub mod OrderRuns
 pub mod ResumeLemmas
 pub mod SelfGradings

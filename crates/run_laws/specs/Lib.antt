@@ -1,6 +1,7 @@
 pub mod AcceptedGrading
 pub mod Agreement
 pub mod AnyOrder
+pub mod AskRuns
 pub mod Growing
 pub mod ResumeLaws
 pub mod SelfGrading

@@ -60,7 +60,8 @@ ResumeLaw =
 abbrev pub InPartsLaw : Type 0
 InPartsLaw =
     (first second whole : Settings) (files later other_files : Files) (earlier between file other : ResultFile) (some rest all : Taken) →
-    first.order ≡ Seen → second.order ≡ Seen → whole.order ≡ Seen → first.top ≡ None → second.top ≡ None → whole.top ≡ None → joined earlier first.max_paths (dumps_in first) files ≡ Ok some → IsResumed first earlier some between →
+    first.order ≡ Seen → second.order ≡ Seen → whole.order ≡ Seen → first.top ≡ None → second.top ≡ None → whole.top ≡ None →
+    joined earlier first.max_paths (dumps_in first) files ≡ Ok some → IsResumed first earlier some between →
     joined between second.max_paths (dumps_in second) later ≡ Ok rest → IsResumed second between rest file →
     whole.ratio ≡ second.ratio → map other_files (dumps_in whole) ≡ map files (dumps_in first) ++ map later (dumps_in second) →
     joined earlier whole.max_paths (dumps_in whole) other_files ≡ Ok all → IsResumed whole earlier all other → AreSameButEvidence file other

@@ -7,6 +7,7 @@ ghost use Rattle.tor_output.specs.SeenLaw.{DumpsLaw, SeenLaw, DumpsReadableLaw, 
 ghost use Rattle.run_laws.specs.AcceptedGrading.{AcceptedGradingLaw};
 ghost use Rattle.run_laws.specs.Agreement.{AgreementLaw, AnyOrderAgreementLaw, MigrateLaw, OneSummaryLaw};
 ghost use Rattle.run_laws.specs.AnyOrder.{AnyDumpOrderLaw};
+ghost use Rattle.run_laws.specs.AskRuns.{AskRunLaw};
 ghost use Rattle.run_laws.specs.Growing.{ResumedStaysLaw, AddedStaysLaw, SomeFaithfulLaw};
 ghost use Rattle.run_laws.specs.ResumeLaws.{OfDumpsLaw, ResumeLaw, InPartsLaw, ResumedAcceptanceLaw};
 ghost use Rattle.run_laws.specs.SelfGrading.{SelfGradingLaw};
@@ -15,7 +16,7 @@ ghost use Rattle.run_laws.specs.TopRuns.{TopLaw, TopOnEarlierLaw, OneKnowledgeLa
 
 use dump_read::dump_law;
 use rel_infer::self_acceptance_law;
-use result_laws::{any_order_law, forced_stays_law, some_result_law};
+use result_laws::{any_order_law, forced_stays_law, given_ask_law, some_result_law};
 use result_text::one_value;
 use top_laws::{top_result_law, top_resumed_law};
 use tor_words::bounds_law;
@@ -156,6 +157,17 @@ pub fn top_law()
     faithful_law();
     top_result_law();
     top_resumed_law();
+}
+
+/// What `--ask` is for: where a later run of the same options, over the same dumps, knows of an edge that `--ask` has a line of which of the
+/// two is the provider, by a line behind those of the file of known relationships or in the place of one by which the two are peers, its
+/// result keeps the same paths, and as many edges more are forced as the line says of this provider: those open ones that it forces.
+pub fn ask_run_law()
+    ensures { AskRunLaw }
+{
+    bounds_law();
+    faithful_law();
+    given_ask_law();
 }
 
 /// What `--order short` is for: where two runs with it have dumps that give the same routes, in whatever order these come and however they are

@@ -5,7 +5,7 @@
 mod laws;
 
 pub use laws::{
-    accepted_grading_law, agreement_law, any_dump_order_law, faithful_law, grading_law,
-    growing_law, migrate_law, one_outcome_law, one_summary_law, readable_law, resume_law, seen_law,
-    self_grading_law, short_law, some_faithful_law, top_law,
+    accepted_grading_law, agreement_law, any_dump_order_law, ask_run_law, faithful_law,
+    grading_law, growing_law, migrate_law, one_outcome_law, one_summary_law, readable_law,
+    resume_law, seen_law, self_grading_law, short_law, some_faithful_law, top_law,
 };

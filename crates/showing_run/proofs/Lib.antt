@@ -1,4 +1,5 @@
 mod Comings
+mod OnPaths
 mod Showings
 mod Tellings
 mod Vectors

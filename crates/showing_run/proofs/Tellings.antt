@@ -1,4 +1,4 @@
--- An edge or a path is there or isn't.
+-- An edge, a path or an AS is there or isn't.
 use Rattle.std.proofs.Common.{◌<◌, ℕ, List, length, Some, None, subst}
 use Rattle.std.proofs.lemmas.Option.{slice_get_within}
 use Rattle.std.specs.Prelude.{Contains}
@@ -13,7 +13,7 @@ use Rattle.telling.specs.Told.{AnswersEdge, AnswersPath, IsLineOf, IsToldOfPath,
 use Rattle.tor_words.specs.declared.why_settings.Asked.{Asked}
 use Rattle.tor_words.specs.declared.why_settings.Asked.TheVariants as asked
 use Rattle.showing_run.proofs.Comings.{NotBoth}
-use Rattle.showing_run.specs.Whys.{IsTold, telling}
+use Rattle.showing_run.specs.Whys.{IsToldAsked, telling}
 
 on_line : (file : ResultFile) (one other : ℕ) (line : EdgeLine) → IsLineOf file one other line → Contains (its_edges file) (edge_of one other)
 on_line file one other line is = subst (Contains (its_edges file)) is.1 (Contains-map edge_on file.edges line is.0)
@@ -35,9 +35,10 @@ path_there file k (told.Kept path goings) is = slice_get_within file.paths k is.
 path_both : (file : ResultFile) (number : ℕ) (tale : Told) → AnswersPath file number None → AnswersPath file number (Some tale) → ⊥
 path_both file number tale none some = none some.0 some.1 (path_there file some.0 tale some.2)
 
-both : (name : List ℕ) (asked : Asked) (file : ResultFile) (text : List ℕ) → IsTold (record { result = name; asked = asked }) file None → IsTold (record { result = name; asked = asked }) file (Some text) → ⊥
-both name (asked.Edge one other) file text none some = edge_both file one other some.0 none some.1
-both name (asked.Path number) file text none some = path_both file number some.0 none some.1
+both : (asked : Asked) (file : ResultFile) (text : List ℕ) → IsToldAsked asked file None → IsToldAsked asked file (Some text) → ⊥
+both (asked.Edge one other) file text none some = edge_both file one other some.0 none some.1
+both (asked.Path number) file text none some = path_both file number some.0 none some.1
+both (asked.Neighbours a) file text none some = none some.0
 
 pub not_both : NotBoth telling
-not_both settings file text none some = both settings.result settings.asked file text none some
+not_both settings file text none some = both settings.asked file text none some

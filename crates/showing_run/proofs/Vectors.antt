@@ -1,7 +1,7 @@
 -- The notes of what isn't there, computed.
 use Rattle.std.proofs.Common.{◌≡◌, codes, refl}
 use Rattle.std.specs.Fmt.{digits}
-use Rattle.tor_words.specs.declared.why_settings.Asked.TheVariants.{Edge, Path}
+use Rattle.tor_words.specs.declared.why_settings.Asked.TheVariants.{Edge, Path, Neighbours}
 use Rattle.showing_run.specs.Views as views
 use Rattle.showing_run.specs.Whys as whys
 
@@ -12,6 +12,10 @@ no_edge = refl
 no_path : whys.absent_note (Path 4) ≡ codes "absent|4\n"
 unfolding digits
 no_path = refl
+
+no_neighbours : whys.absent_note (Neighbours 4294967295) ≡ codes "absent|4294967295\n"
+unfolding digits
+no_neighbours = refl
 
 no_as : views.absent_note 20 ≡ codes "absent|20\n"
 unfolding digits

@@ -44,10 +44,11 @@ fn answer<H: Shelf, O: Sink>(
     }
 }
 
-/// Runs `torwhy`: the words name a result file, and an edge or a path of it. The result has to meet the rules 0 to 10; then it writes why
-/// the edge is what it is, or why the path is kept or lost. Done: this was written. No: a rule is broken, or there is no such edge or
-/// path. Usage: the words are no command. Limit: the result file has more than 2^31 octets. ReadFault: a call on the shelf failed, as an
-/// open does at a file that isn't there. WriteFault: a call on out failed. NoMemory: memory ran out, before anything went to out.
+/// Runs `torwhy`: the words name a result file, and an edge, a path or an AS of it. The result has to meet the rules 0 to 10; then it writes
+/// why the edge is what it is, why the path is kept or lost, or which neighbours the AS has. Done: this was written. No: a rule is broken,
+/// or there is no such edge, path or AS. Usage: the words are no command. Limit: the result file has more than 2^31 octets. ReadFault: a
+/// call on the shelf failed, as an open does at a file that isn't there. WriteFault: a call on out failed. NoMemory: memory ran out, before
+/// anything went to out.
 /// `docs/PROMISES.md` has each promise by name.
 pub fn why<H: Shelf, O: Sink, E: Sink>(
     alloc: Global,

@@ -29,8 +29,8 @@ pub(crate) struct Picture {
     pub text: List<u8>,
 }
 
-// Whether an edge has this AS.
-fn has_edge(edges: &[EdgeLine], asked: u32) -> bool
+/// Whether an edge has this AS.
+pub(crate) fn has_edge(edges: &[EdgeLine], asked: u32) -> bool
     ensures some { IsTrue result → HasEdge edges.now asked }
     ensures none { IsFalse result → HasEdge edges.now asked → ⊥ }
 {

@@ -3,7 +3,9 @@ pub mod Chains
 pub mod Decided
 pub mod DownLemmas
 pub mod EitherLemmas
+pub mod Excerpts
 pub mod LabelLemmas
+pub mod NamingLemmas
 pub mod OneProof
 pub mod PathLemmas
 pub mod ProvingLemmas

@@ -1,7 +1,6 @@
 -- Why lines and steps that are put one by one, and the walk of a lost path.
 use Rattle.std.proofs.Common.{◌≡◌, ◌∙◌, ℕ, zero, suc, ◌+◌, ◌-◌, ◌<◌, ◌≤◌, ◌⊎◌, inl, inr, List, [], ◌∷◌, ◌++◌, length, take, drop, get_or, Some, refl, sym, ap, append_assoc, arith}
 use Rattle.std.specs.Prelude.{codes}
-use Rattle.std.specs.List.{flat_map}
 use Rattle.std.proofs.lemmas.List.{append-nil, take_all}
 use Rattle.tor_io.specs.Outflow.{State, Puts}
 use Rattle.tor_io.proofs.Putting.{puts_as, puts_then}
@@ -10,24 +9,24 @@ use Rattle.relationships.specs.declared.fate.Fate.{Fate}
 use Rattle.relationships.specs.declared.fate.Fate.TheVariants as fate
 use Rattle.relationships.specs.Fates.{walk_of}
 use Rattle.result_text.specs.declared.file.ResultFile.{ResultFile}
-use Rattle.telling.specs.WalkText.{begin_text, steps_text}
+use Rattle.telling.specs.WalkText.{begin_text, walk_steps, steps_text}
 use Rattle.telling.specs.declared.told.Going.{Going}
-use Rattle.telling.specs.ToldText.{why_at, whys_text, refuting_text, going_row, goings_text}
+use Rattle.telling.specs.ToldText.{why_at, names_at, further_text, whys_text, refuting_text, going_row, goings_text}
 
 -- ---- walks
 
 -- places of why lines that aren't none are the first and the others
 pub all_whys : (file : ResultFile) (xs : List ℕ) (d : ℕ) → 1 ≤ length xs
-    → why_at file (codes "if") (get_or xs 0 d) ++ flat_map (why_at file (codes "since")) (take (length xs - 1) (drop 1 xs)) ≡ whys_text file xs
+    → why_at file (codes "if") [] (get_or xs 0 d) ++ further_text file (names_at file (get_or xs 0 d)) (take (length xs - 1) (drop 1 xs)) ≡ whys_text file xs
 all_whys file [] d low = absurd (omega (arith, low))
-all_whys file (x ∷ xs) d low = ap (λ ys. why_at file (codes "if") x ++ flat_map (why_at file (codes "since")) ys) (take_all (length (x ∷ xs) - 1) xs (omega arith))
+all_whys file (x ∷ xs) d low = ap (λ ys. why_at file (codes "if") [] x ++ further_text file (names_at file x) ys) (take_all (length (x ∷ xs) - 1) xs (omega arith))
 
 -- a lost path has the steps of its walk
 pub walk_read : (file : ResultFile) (its : Fate) (walk : Walk) → walk_of its ≡ Some walk
-    → begin_text (codes "if") walk.ases ++ steps_text file walk.ases walk.links ≡ refuting_text file its
+    → begin_text (codes "if") walk.ases ++ steps_text file [] (walk_steps walk) ≡ refuting_text file its
 walk_read file fate.Kept walk is = absurd cc
 walk_read file (fate.Lost w) walk is =
-    let same : walk ≡ w = cc in ap (λ (w : Walk). begin_text (codes "if") w.ases ++ steps_text file w.ases w.links) same
+    let same : walk ≡ w = cc in ap (λ (w : Walk). begin_text (codes "if") w.ases ++ steps_text file [] (walk_steps w)) same
 
 -- ---- how steps go
 

@@ -1,6 +1,7 @@
 pub mod Downs
 pub mod Labelling
 pub mod Laws
+pub mod PathText
 pub mod Proving
 pub mod Reaching
 pub mod Told

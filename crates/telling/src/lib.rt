@@ -5,8 +5,10 @@
 mod answer;
 mod downs;
 mod edges;
+mod excerpt;
 mod goings;
 mod laws;
+mod named;
 mod numbers;
 mod paths;
 mod proving;
@@ -18,7 +20,8 @@ mod writing;
 
 pub use answer::tell;
 pub use edges::line_of;
-pub use laws::{answer_law, either_law, peers_law, proving_law};
+pub use laws::{answer_law, either_law, peers_law, proving_law, short_lines_law};
+pub use named::NamedPaths;
 pub use paths::tell_path;
 pub use proving::{proof_of, whys_for};
 pub use told::{Going, Question, Told};

@@ -1,14 +1,17 @@
 //! What is told, as text.
 
-ghost use Rattle.std.specs.Prelude.{◌≡◌, [], ◌∷◌, ◌++◌, OnOk, OnErr, codes, slice_get};
+ghost use Rattle.std.specs.Prelude.{◌≡◌, [], ◌∷◌, ◌++◌, OnOk, OnErr, codes, length, slice_get};
 ghost use Rattle.std.specs.List.{flat_map};
 ghost use Rattle.std.specs.Io.KnownBytes.{append_known};
 ghost use Rattle.tor_io.specs.Counts.{HasCause};
 ghost use Rattle.tor_io.specs.Contents.{GainsPrefix};
 ghost use Rattle.tor_io.specs.Outflow.{state, Puts};
-ghost use Rattle.telling.specs.ToldText.{why_at, whys_text, path_row, lost_text};
+ghost use Rattle.telling.specs.PathText.{AreFlagged, PutsNaming};
+ghost use Rattle.telling.specs.WalkText.{names_of, walk_steps};
+ghost use Rattle.telling.specs.ToldText.{why_at, names_at, further_text, whys_text, path_row, lost_text};
 ghost use Rattle.telling.specs.ToldText.{going_name, going_row, goings_text, kept_text, told_text};
 
+use crate::named::NamedPaths;
 use crate::numbers::put_pair;
 use crate::steps::{put_begin, put_steps, put_why};
 use crate::told::{Going, Told};
@@ -29,41 +32,58 @@ fn going_end(going: Going) -> &'static [u8]
 
 // Each of these puts something behind what waits for the sink, lines with their line feed.
 
-// The why line in a place, if it is there.
+// The why line in a place, if it is there; its paths are named.
 fn put_why_at<S: Sink>(
     out: &mut S,
     flow: &mut Outflow<'_>,
+    named: &mut NamedPaths,
     file: &ResultFile,
     word: &[u8],
     why: WalkId,
 )
-    ensures { Puts (state (S.held out.old) (S.faults out.old) flow.old) (state (S.held out.new) (S.faults out.new) flow.new)
-        (why_at file.now word.now why) }
+    requires { length named.old ≡ length file.now.paths }
+    ensures { PutsNaming (state (S.held out.old) (S.faults out.old) flow.old) (state (S.held out.new) (S.faults out.new) flow.new)
+        named.old named.new (λ before. why_at file.now word.now before why) (names_at file.now why) }
 {
     if why.place() < file.whys.len() {
-        put_why(out, flow, file, word, &file.whys.get(why));
+        put_why(out, flow, named, file, word, &file.whys.get(why));
     }
 }
 
-// The further why lines.
-fn put_other_whys<S: Sink>(out: &mut S, flow: &mut Outflow<'_>, file: &ResultFile, whys: &[WalkId])
-    ensures { Puts (state (S.held out.old) (S.faults out.old) flow.old) (state (S.held out.new) (S.faults out.new) flow.new)
-        (flat_map (why_at file.now (codes "since")) whys.now) }
+// The further why lines; their paths are named.
+fn put_other_whys<S: Sink>(
+    out: &mut S,
+    flow: &mut Outflow<'_>,
+    named: &mut NamedPaths,
+    file: &ResultFile,
+    whys: &[WalkId],
+)
+    requires { length named.old ≡ length file.now.paths }
+    ensures { PutsNaming (state (S.held out.old) (S.faults out.old) flow.old) (state (S.held out.new) (S.faults out.new) flow.new)
+        named.old named.new (λ before. further_text file.now before whys.now) (flat_map (names_at file.now) whys.now) }
 {
     for why in whys {
-        put_why_at(out, flow, file, b"since", *why);
+        put_why_at(out, flow, named, file, b"since", *why);
     }
 }
 
-fn put_whys<S: Sink>(out: &mut S, flow: &mut Outflow<'_>, file: &ResultFile, whys: &[WalkId])
+fn put_whys<S: Sink>(
+    out: &mut S,
+    flow: &mut Outflow<'_>,
+    named: &mut NamedPaths,
+    file: &ResultFile,
+    whys: &[WalkId],
+)
+    requires many { length named.old ≡ length file.now.paths }
+    requires none { AreFlagged [] named.old }
     ensures { Puts (state (S.held out.old) (S.faults out.old) flow.old) (state (S.held out.new) (S.faults out.new) flow.new)
         (whys_text file.now whys.now) }
 {
     match whys {
         [] => {}
         [first, others @ ..] => {
-            put_why_at(out, flow, file, b"if", *first);
-            put_other_whys(out, flow, file, others);
+            put_why_at(out, flow, named, file, b"if", *first);
+            put_other_whys(out, flow, named, file, others);
         }
     }
 }
@@ -78,14 +98,22 @@ fn put_path_line<S: Sink>(out: &mut S, flow: &mut Outflow<'_>, word: &[u8], line
     flow.put_row(out, line.times(), b'|', b' ', line.path(), b'\n');
 }
 
-fn put_lost<S: Sink>(out: &mut S, flow: &mut Outflow<'_>, file: &ResultFile, line: &PathLineRef<'_>)
+fn put_lost<S: Sink>(
+    out: &mut S,
+    flow: &mut Outflow<'_>,
+    named: &mut NamedPaths,
+    file: &ResultFile,
+    line: &PathLineRef<'_>,
+)
+    requires many { length named.old ≡ length file.now.paths }
+    requires none { AreFlagged [] named.old }
     ensures { Puts (state (S.held out.old) (S.faults out.old) flow.old) (state (S.held out.new) (S.faults out.new) flow.new)
         (lost_text file.now line.now) }
 {
     put_path_line(out, flow, b"lost", line);
     if let Some(walk) = line.walk() {
         put_begin(out, flow, b"if", walk.ases());
-        put_steps(out, flow, file, walk.ases(), walk.links());
+        put_steps(out, flow, named, file, walk.ases(), walk.links());
     }
 }
 
@@ -127,19 +155,34 @@ fn line_at(file: &ResultFile, path: PathId) -> Option<PathLineRef<'_>>
     }
 }
 
-fn put_told<S: Sink>(out: &mut S, flow: &mut Outflow<'_>, file: &ResultFile, told: &Told)
+fn put_told<S: Sink>(
+    out: &mut S,
+    flow: &mut Outflow<'_>,
+    named: &mut NamedPaths,
+    file: &ResultFile,
+    told: &Told,
+)
+    requires many { length named.old ≡ length file.now.paths }
+    requires none { AreFlagged [] named.old }
     ensures { Puts (state (S.held out.old) (S.faults out.old) flow.old) (state (S.held out.new) (S.faults out.new) flow.new)
         (told_text file.now told.now) }
 {
     match told {
         Told::Forced { line, whys } => {
             put_edge(out, flow, line);
-            put_whys(out, flow, file, whys.as_slice());
+            put_whys(out, flow, named, file, whys.as_slice());
         }
         Told::Open { line, probe, walk } => {
             put_edge(out, flow, line);
             put_pair(out, flow, b"open", probe.over, probe.under);
-            put_steps(out, flow, file, walk.ases.as_slice(), walk.links.as_slice());
+            put_steps(
+                out,
+                flow,
+                named,
+                file,
+                walk.ases.as_slice(),
+                walk.links.as_slice(),
+            );
             flow.put(out, b"free\n");
         }
         Told::Peering { line } => {
@@ -148,7 +191,7 @@ fn put_told<S: Sink>(out: &mut S, flow: &mut Outflow<'_>, file: &ResultFile, tol
         }
         Told::Lost { path } => {
             if let Some(line) = line_at(file, *path) {
-                put_lost(out, flow, file, &line);
+                put_lost(out, flow, named, file, &line);
             }
         }
         Told::Kept { path, goings } => {
@@ -159,20 +202,23 @@ fn put_told<S: Sink>(out: &mut S, flow: &mut Outflow<'_>, file: &ResultFile, tol
     }
 }
 
-/// Writes what is told of a result through the buffer, which has to be empty, and what waits in it at the end. Failed: a write failed, and
-/// out took a prefix of the text. It takes no memory.
+/// Writes what is told of a result through the buffer, which has to be empty, and what waits in it at the end. No path of the result is
+/// named yet. Failed: a write failed, and out took a prefix of the text. It takes no memory.
 pub fn write_told<S: Sink>(
     out: &mut S,
     buffer: &mut Buffer,
+    named: &mut NamedPaths,
     file: &ResultFile,
     told: &Told,
 ) -> Result<(), Failed>
-    requires { buffer.old ≡ [] }
+    requires empty { buffer.old ≡ [] }
+    requires many { length named.old ≡ length file.now.paths }
+    requires none { AreFlagged [] named.old }
     ensures all { OnOk result (S.held out.new ≡ append_known (S.held out.old) (told_text file.now told.now)) }
     ensures prefix { OnErr result (GainsPrefix (S.held out.old) (S.held out.new) (told_text file.now told.now)) }
     ensures cause { HasCause (S.faults out.old) (S.faults out.new) result }
 {
     let mut flow = Outflow::through(buffer);
-    put_told(out, &mut flow, file, told);
+    put_told(out, &mut flow, named, file, told);
     flow.finish(out)
 }

@@ -118,32 +118,35 @@ fn lines_of(
     tie_lines(alloc, graph, ties.as_slice())
 }
 
-/// The ties of distinct paths under givens. Each path has at least two ASes, all distinct; there are at most 2^23 paths, of at most 2^26
-/// numbers in sum. Each given names two ASes, and no two of them the same two. Each path is kept exactly if some orientation that agrees
-/// with the givens serves it together with those kept before it. Each edge that the kept paths and the givens leave open has a line, in
-/// the order of the edges. The only error is that memory ran out.
+// The lines of the ties of distinct paths under givens. Each path has at least two ASes, all distinct; there are at most 2^23 paths, of at
+// most 2^26 numbers in sum. Each given names two ASes, and no two of them the same two. The paths are let go once there is a graph, whose
+// steps say them too.
 fn ties_from(
     alloc: Global,
     keys: Keys,
     givens: &[Given],
-    paths: &Rows<PathId, u32>,
+    paths: Rows<PathId, u32>,
 ) -> Result<List<TieLine>, NoMemory>
-    requires several { All (λ path. 2 ≤ length path) paths.now }
-    requires apart { All AllDistinct paths.now }
-    requires few { length paths.now ≤ max_paths }
-    requires short { sum_by length paths.now ≤ max_numbers }
+    requires several { All (λ path. 2 ≤ length path) paths }
+    requires apart { All AllDistinct paths }
+    requires few { length paths ≤ max_paths }
+    requires short { sum_by length paths ≤ max_numbers }
     requires two { NameTwo givens.now }
     requires once { NameOnce givens.now }
-    ensures { IfOk result (AreTieLinesOf givens.now paths.now) }
+    ensures { IfOk result (AreTieLinesOf givens.now paths) }
 {
-    let graph = build_with(alloc, keys, paths, givens)?;
-    let lines = lines_of(alloc, keys, &graph, paths.len());
+    let count = paths.len();
+    let built = build_with(alloc, keys, &paths, givens);
+    drop(paths);
+    let graph = built?;
+    let lines = lines_of(alloc, keys, &graph, count);
     drop(graph);
     lines
 }
 
-/// The ties of distinct paths under relationships that are given, each of two ASes and no two of the same two. Every
-/// orientation that is asked for agrees with them, so the edges that they name are not open. The only error is that memory ran out.
+/// The ties of distinct paths under relationships that are given, each of two ASes and no two of the same two: a line for each edge that the
+/// kept paths and the givens leave open, in the order of the edges. Each path is kept exactly if some orientation that agrees with the
+/// givens serves it together with those kept before it. The only error is that memory ran out.
 pub fn ties_of_paths(
     alloc: Global,
     keys: Keys,
@@ -155,6 +158,7 @@ pub fn ties_of_paths(
     ensures { IfOk result (AreTieLinesOf givens.now (row_paths paths)) }
 {
     paths.facts();
-    let (rows, _) = paths.into_rows();
-    ties_from(alloc, keys, givens, &rows)
+    let (rows, times) = paths.into_rows();
+    drop(times);
+    ties_from(alloc, keys, givens, rows)
 }

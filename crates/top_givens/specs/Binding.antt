@@ -1,5 +1,5 @@
 -- How edges are bound one after the other. These words are those of the code alone.
-use Rattle.std.specs.Prelude.{◌≡◌, ℕ, true, List, ◌++◌, ◌||◌, map, filter}
+use Rattle.std.specs.Prelude.{◌≡◌, ◌<◌, ◌≤◌, ◌%◌, ℕ, true, List, ◌++◌, ◌||◌, length, map, filter, slice_index}
 use Rattle.std.specs.List.{list_any}
 use Rattle.relationships.specs.declared.given.Given.{Given}
 use Rattle.relationships.specs.Graph.{Edge, is_same, distinct}
@@ -8,6 +8,10 @@ use Rattle.top_givens.specs.TopGivens.{is_top, has_one_top, top_given, is_paired
 -- the two lists have the same ASes
 pub record HaveSameTop (top other : List ℕ) : Type 0 where
   pub same : (a : ℕ) → is_top top a ≡ is_top other a
+
+-- no AS of the top leaves a remainder that has no mark
+pub record AreTopMarks (top marks : List ℕ) : Type 0 where
+  pub marked : (k : ℕ) → k < length top → 1 ≤ slice_index marks (slice_index top k % 1024)
 
 -- of the edges with exactly one end in the top, those of the pairs stand in the table, and no other
 pub record StandSettled (top : List ℕ) (pairs : List (ℕ × ℕ)) (settled : List Edge) : Type 0 where

@@ -241,8 +241,8 @@ module _ (graph : List (List ℕ)) (kept : List ℕ) where
       subst (λ paths. Refutes (numbered graph paths) (relinked own link w)) (sym e) (r (later ++ more) link (subst (λ paths. IsLinkOf graph paths link first second) e is))
 
   refused_more : (fates : List Fate) (fate : Fate) (later : List ℕ) (r : Refusal) → IsRefusalOf graph kept fates r → IsRefusalOf graph (kept ++ later) (fates ++ fate ∷ []) r
-  refused_more fates fate later r (w, lost, refuses) =
-      (w, slice_get-push_old fates (fate ∷ []) r.path (Fate.Lost w) lost, refuses_more r.first r.second (r.path + 1) w later refuses)
+  refused_more fates fate later r (w, lost, counted, refuses) =
+      (w, slice_get-push_old fates (fate ∷ []) r.path (Fate.Lost w) lost, counted, refuses_more r.first r.second (r.path + 1) w later refuses)
 
   all_more : (fates : List Fate) (fate : Fate) (later : List ℕ) (refusals : List Refusal) → AreRefused graph kept fates refusals → AreRefused graph (kept ++ later) (fates ++ fate ∷ []) refusals
   all_more fates fate later refusals all k r there = refused_more fates fate later r (all k r there)
@@ -255,7 +255,7 @@ module _ (graph : List (List ℕ)) (kept : List ℕ) where
   met_refutes path lost fates refusals met walk all (r, there, has) of again =
       let same : of.0 ≡ r = some_same (sym of.1 ∙ there) in
       let is : r.path ≡ lost = ap (λ (q : Refusal). q.path) (sym same) ∙ of.2 in
-      let (w, was, refuses) = all met.refusal r there in
+      let (w, was, counted, refuses) = all met.refusal r there in
       let link = link_of graph path (kept ++ path ∷ []) met.at r.first r.second (In-append_right path kept (path ∷ []) (inl refl)) has in
       let by : Refutes (numbered graph (kept ++ path ∷ [])) (relinked (lost + 1) (record { path = path + 1; at = met.at }) w) =
       subst (λ n. Refutes (numbered graph (kept ++ path ∷ [])) (relinked (n + 1) (record { path = path + 1; at = met.at }) w)) is
@@ -264,9 +264,10 @@ module _ (graph : List (List ℕ)) (kept : List ℕ) where
 
   -- what is counted of a refusal is no part of why it refutes
   same_triple : (fates : List Fate) (r s : Refusal) → IsSameTriple r s → IsRefusalOf graph kept fates r → IsRefusalOf graph kept fates s
-  same_triple fates r s same (w, lost, refuses) = (
+  same_triple fates r s same (w, lost, counted, refuses) = (
     w,
     subst (λ n. slice_get fates n ≡ Some (Fate.Lost w)) (sym same.path) lost,
+    same.links ∙ counted,
     subst (λ n. RefutesTriple graph kept s.first s.second (n + 1) w) (sym same.path)
         (subst (λ n. RefutesTriple graph kept s.first n (r.path + 1) w) (sym same.second)
         (subst (λ n. RefutesTriple graph kept n r.second (r.path + 1) w) (sym same.first) refuses)),
@@ -289,25 +290,27 @@ module _ (graph : List (List ℕ)) (kept : List ℕ) where
   -- a path is lost, and its triple is remembered
   module _ (path : ℕ) (fates : List Fate) (w : Walk) (next : length fates ≡ path)
       (refutes : Refutes (numbered graph (kept ++ path ∷ [])) w) (old new : List Refusal) (all : AreRefused graph kept fates old) where
-    one_refuses : (at : ℕ) (r : Refusal) → r.path ≡ path → NamesOnly (path + 1) at w.links → HasTriple graph path at r.first r.second → IsRefusalOf graph kept (fates ++ Fate.Lost w ∷ []) r
-    one_refuses at r named only has =
+    one_refuses : (at : ℕ) (r : Refusal) → r.path ≡ path → r.links ≡ length w.links → NamesOnly (path + 1) at w.links → HasTriple graph path at r.first r.second →
+        IsRefusalOf graph kept (fates ++ Fate.Lost w ∷ []) r
+    one_refuses at r named counted only has =
         let here = link_of graph path (kept ++ path ∷ []) at r.first r.second (In-append_right path kept (path ∷ []) (inl refl)) has in
         let last : slice_get (fates ++ Fate.Lost w ∷ []) r.path ≡ Some (Fate.Lost w) =
         ap (slice_get (fates ++ Fate.Lost w ∷ [])) (named ∙ sym next) ∙ slice_get-push_last fates (Fate.Lost w) in (
           w,
           last,
+          counted,
           subst (λ n. RefutesTriple graph kept r.first r.second (n + 1) w) (sym named)
               (λ more link is. refutes_again graph kept path at r.first r.second here more link is w only refutes),
         )
 
     still : (r : Refusal) → IsRefusalOf graph kept fates r → IsRefusalOf graph kept (fates ++ Fate.Lost w ∷ []) r
-    still r (v, lost, refuses) = (v, slice_get-push_old fates (Fate.Lost w ∷ []) r.path (Fate.Lost v) lost, refuses)
+    still r (v, lost, counted, refuses) = (v, slice_get-push_old fates (Fate.Lost w ∷ []) r.path (Fate.Lost v) lost, counted, refuses)
 
     lost_too : Remembers graph path (Fate.Lost w) old new → AreRefused graph kept (fates ++ Fate.Lost w ∷ []) new
     lost_too (inl same) k r there = still r (all k r (ap (λ (l : List Refusal). slice_get l k) (sym same) ∙ there))
     lost_too (inr puts) k r there = elim (put_cases puts.refusal old new k r puts.put there) [
       | inl h ↦ still r (all k r h)
-      | inr h ↦ subst (IsRefusalOf graph kept (fates ++ Fate.Lost w ∷ [])) (sym h) (one_refuses puts.at puts.refusal puts.named puts.alone puts.triple)
+      | inr h ↦ subst (IsRefusalOf graph kept (fates ++ Fate.Lost w ∷ [])) (sym h) (one_refuses puts.at puts.refusal puts.named puts.counted puts.alone puts.triple)
     ]
 
   -- what becomes of a path is remembered

@@ -1,5 +1,5 @@
 -- Triples that were refused alone, and why a later path with one of them is lost by the same walk.
-use Rattle.std.specs.Prelude.{◌≡◌, ◌≤◌, ◌⊎◌, ℕ, ◌+◌, ◌==◌, List, [], ◌∷◌, ◌++◌, Some, map, slice_get, slice_set, if◌then◌else◌}
+use Rattle.std.specs.Prelude.{◌≡◌, ◌≤◌, ◌⊎◌, ℕ, ◌+◌, ◌==◌, List, [], ◌∷◌, ◌++◌, Some, length, map, slice_get, slice_set, if◌then◌else◌}
 use Rattle.relationships.specs.declared.walk.Link.{Link}
 use Rattle.relationships.specs.declared.walk.Walk.{Walk}
 use Rattle.relationships.specs.declared.fate.Fate.{Fate}
@@ -34,10 +34,11 @@ abbrev pub RefutesTriple : List (List ℕ) → List ℕ → ℕ → ℕ → ℕ 
 RefutesTriple graph kept first second own w = (more : List ℕ) (link : Link) → IsLinkOf graph (kept ++ more) link first second →
     Refutes (numbered graph (kept ++ more)) (relinked own link w)
 
--- the path of the refusal was lost, with such a walk
+-- the path of the refusal was lost, with such a walk, whose links are counted
 abbrev pub IsRefusalOf : List (List ℕ) → List ℕ → List Fate → Refusal → Type 0
 IsRefusalOf graph kept fates r =
-    (w : Walk) × (slice_get fates r.path ≡ Some (Fate.Lost w)) × RefutesTriple graph kept r.first r.second (r.path + 1) w
+    (w : Walk) × (slice_get fates r.path ≡ Some (Fate.Lost w)) × (r.links ≡ length w.links) ×
+    RefutesTriple graph kept r.first r.second (r.path + 1) w
 
 abbrev pub AreRefused : List (List ℕ) → List ℕ → List Fate → List Refusal → Type 0
 AreRefused graph kept fates refusals = (k : ℕ) (r : Refusal) → slice_get refusals k ≡ Some r → IsRefusalOf graph kept fates r
@@ -85,11 +86,12 @@ abbrev pub NoneGrows : List Refusal → List Refusal → Type 0
 NoneGrows old new =
     (place : ℕ) (r : Refusal) → slice_get old place ≡ Some r → (s : Refusal) × (slice_get new place ≡ Some s) × (s.links ≤ r.links)
 
--- the refusals with one of this path, whose walk has no link into it but of the triple
+-- the refusals with one of this path, whose walk has so many links, and none into it but of the triple
 pub record Puts (graph : List (List ℕ)) (path : ℕ) (w : Walk) (old new : List Refusal) : Type 0 where
   pub refusal : Refusal
   pub put : IsPut refusal old new
   pub named : refusal.path ≡ path
+  pub counted : refusal.links ≡ length w.links
   pub at : ℕ
   pub alone : NamesOnly (path + 1) at w.links
   pub triple : HasTriple graph path at refusal.first refusal.second

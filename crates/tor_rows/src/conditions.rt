@@ -1,11 +1,12 @@
 //! What befalls a run.
+use crate::hollow::Records;
 use crate::refused::{Refused, number_of};
 
 /// How much calls take, and which of them fail.
 #[derive(Clone, Copy)]
 pub struct Conditions {
-    /// Every name opens a file without end.
-    pub is_endless: bool,
+    /// Every name opens a file of such hollow records.
+    pub hollow: Option<Records>,
     /// To how many octets the last file is cut.
     pub cut: Option<usize>,
     /// How many octets a read gives at most.
@@ -33,7 +34,7 @@ impl Conditions {
     /// Nothing fails, and calls take all.
     pub fn new() -> Conditions {
         Conditions {
-            is_endless: false,
+            hollow: None,
             cut: None,
             read_octets: NEVER,
             write_octets: NEVER,
@@ -43,13 +44,20 @@ impl Conditions {
         }
     }
 
+    // Every name opens a file of records as the text says: how many, and of how many octets each.
+    fn hollow(&mut self, text: &str) -> Result<(), Refused> {
+        let (count, octets) = text.split_once(' ').unwrap_or((text, ""));
+        self.hollow = Some(Records {
+            count: number_of(count)?,
+            octets: number_of(octets)?,
+        });
+        Ok(())
+    }
+
     /// Takes a line of that kind, if it is one.
     pub fn take(&mut self, kind: &str, text: &str) -> Option<Result<(), Refused>> {
         let taken = match kind {
-            "endless" => {
-                self.is_endless = true;
-                Ok(())
-            }
+            "hollow" => self.hollow(text),
             "octets-a-read" => set(&mut self.read_octets, text),
             "out-takes" => set(&mut self.write_octets, text),
             "read-fails-at" => set(&mut self.failing_read, text),

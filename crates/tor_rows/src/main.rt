@@ -24,7 +24,7 @@
 //   file NAME               puts what was built under this name, for this row; the next file begins empty
 //   common NAME             the same for all rows behind it; it stands in a block without a name
 //   keep NAME               puts under this name what the run above wrote to out
-//   endless                 every name opens a file without end: records of type 99 with 4294967295 octets each
+//   hollow 256 4294967296   every name opens a file of so many records of type 99, of so many octets each, of which only headers are made
 //
 // What befalls the runs behind it. Calls are counted from 1; those on files are opens and reads.
 //   octets-a-read 1         a read gives at most so many octets
@@ -57,8 +57,8 @@
 
 mod building;
 mod conditions;
-mod endless;
 mod files;
+mod hollow;
 mod octets;
 mod records;
 mod refused;

@@ -1,7 +1,7 @@
 //! Runs of `infer`, `check`, `grade`, `rank`, `why` and `view` in memory.
 use crate::conditions::Conditions;
-use crate::endless::Endless;
 use crate::files::Files;
+use crate::hollow::Hollow;
 use run_base::Status;
 use showing_run::{view, why};
 use std::alloc::Global;
@@ -178,8 +178,8 @@ pub fn run(
     conditions: Conditions,
     asked: Asked<'_>,
 ) -> Result<Told, NoMemory> {
-    if conditions.is_endless {
-        return run_over(alloc, keys, conditions, asked, &mut Endless::new());
+    if let Some(records) = conditions.hollow {
+        return run_over(alloc, keys, conditions, asked, &mut Hollow::new(records));
     }
     let mut shelf = shelf_of(alloc, files, conditions)?;
     let mut told = run_over(alloc, keys, conditions, asked, &mut shelf)?;

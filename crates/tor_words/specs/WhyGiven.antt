@@ -2,8 +2,9 @@
 use Rattle.std.specs.Prelude.{◌==◌, ℕ, List, [], ◌∷◌, Option, Some, None, unwrap_or, if◌then◌else◌, codes}
 use Rattle.clap.specs.Words.{Row, Text, all_of, first_of, fault_of, matches_of}
 use Rattle.tor_words.specs.declared.why_settings.Asked.{Asked}
-use Rattle.tor_words.specs.declared.why_settings.Asked.TheVariants.{Edge, Path}
+use Rattle.tor_words.specs.declared.why_settings.Asked.TheVariants.{Edge, Path, Neighbours}
 use Rattle.tor_words.specs.declared.why_settings.WhySettings.{WhySettings}
+use Rattle.tor_words.specs.AsWords.{as_named}
 use Rattle.tor_words.specs.Given.{short_number, unless_fault}
 use Rattle.tor_words.specs.TorwhyCommand.{torwhy_command}
 
@@ -21,14 +22,23 @@ abbrev pub path_asked : Option ℕ → Option Asked
 path_asked None = None
 path_asked (Some number) = Some (Path number)
 
--- what is asked: of the path of a number, with no AS beside it, or of the edge of two ASes
+-- the neighbours of an AS
+abbrev pub neighbours_asked : Option ℕ → Option Asked
+neighbours_asked None = None
+neighbours_asked (Some a) = Some (Neighbours a)
+
+-- the neighbours of one AS, or the edge of two
+abbrev pub ases_asked : List Text → Option Asked
+ases_asked [] = None
+ases_asked (a ∷ []) = neighbours_asked (as_named a)
+ases_asked (a ∷ b ∷ []) = edge_asked (as_named a) (as_named b)
+ases_asked (a ∷ b ∷ c ∷ ases) = None
+
+-- what is asked: of the path of a number, with no AS beside it, or of ASes
 abbrev pub what_asked : (path : Option Text) → (ases : List Text) → Option Asked
 what_asked (Some path) [] = path_asked (short_number path)
 what_asked (Some path) (a ∷ ases) = None
-what_asked None [] = None
-what_asked None (a ∷ []) = None
-what_asked None (a ∷ b ∷ []) = edge_asked (short_number a) (short_number b)
-what_asked None (a ∷ b ∷ c ∷ ases) = None
+what_asked None ases = ases_asked ases
 
 -- what these matches ask
 abbrev pub asked_in : List Row → Option Asked

@@ -2,6 +2,7 @@
 #![tactic(auto)]
 
 mod as_lists;
+mod as_words;
 mod check_settings;
 mod command;
 mod entries;
@@ -10,6 +11,8 @@ mod grade_command;
 mod grade_settings;
 mod job;
 mod laws;
+mod leak_command;
+mod leak_settings;
 mod matching;
 mod name;
 mod rank_command;
@@ -29,6 +32,7 @@ pub use check_settings::{CheckSettings, check_settings_of};
 pub use grade_settings::{GradeSettings, grade_settings_of};
 pub use job::Job;
 pub use laws::bounds_law;
+pub use leak_settings::{LeakSettings, leak_settings_of};
 pub use name::Name;
 pub use rank_settings::{RankSettings, RankTask, rank_settings_of};
 pub use refused::WordsRefused;

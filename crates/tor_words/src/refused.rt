@@ -20,25 +20,53 @@ pub enum WordsRefused {
 /// The digits of a number below 16.
 const DIGITS: [u8; 16] = *b"0123456789abcdef";
 
-// Puts an octet after the first line: a control character as its number, \xNN, since a word of the command line may hold any, and a
-// terminal would heed it.
-fn put_visible(lines: &mut List<u8>, octet: u8) -> Result<(), NoMemory>
-    ensures { OnOk result (HasUsageLine lines.old → HasUsageLine lines.new) }
-{
-    if octet == b'\n' || !octet.is_ascii_control() {
-        return lines.push(octet);
-    }
-    let high = DIGITS[usize::from(octet >> 4)];
-    let low = DIGITS[usize::from(octet & 15)];
-    lines.extend_from_slice(&[b'\\', b'x', high, low])
+// Whether a terminal would heed a character: a control character but LF, or one that says in which direction a text runs.
+fn is_heeded(character: char) -> bool {
+    matches!(
+        character,
+        '\u{0}'..='\u{9}'
+            | '\u{b}'..='\u{1f}'
+            | '\u{7f}'..='\u{9f}'
+            | '\u{61c}'
+            | '\u{200e}'
+            | '\u{200f}'
+            | '\u{202a}'..='\u{202e}'
+            | '\u{2066}'..='\u{2069}'
+    )
 }
 
-// Puts a text, its control characters as their numbers.
+// Puts octets after the first line, each as its number, \xNN.
+fn put_numbers(lines: &mut List<u8>, octets: &[u8]) -> Result<(), NoMemory>
+    ensures { OnOk result (HasUsageLine lines.old → HasUsageLine lines.new) }
+{
+    for octet in octets {
+        let high = DIGITS[usize::from(*octet >> 4)];
+        let low = DIGITS[usize::from(*octet & 15)];
+        lines.extend_from_slice(&[b'\\', b'x', high, low])?;
+    }
+    Ok(())
+}
+
+// Puts a character after the first line: one that a terminal would heed as the numbers of its octets, since a word of the command line
+// may hold any.
+fn put_visible(lines: &mut List<u8>, character: char) -> Result<(), NoMemory>
+    ensures { OnOk result (HasUsageLine lines.old → HasUsageLine lines.new) }
+{
+    let mut room = [0; 4];
+    let octets = character.encode_utf8(&mut room).as_bytes();
+    if is_heeded(character) {
+        put_numbers(lines, octets)
+    } else {
+        lines.extend_from_slice(octets)
+    }
+}
+
+// Puts a text, the characters that a terminal would heed as numbers.
 fn put_text(lines: &mut List<u8>, text: &str) -> Result<(), NoMemory>
     ensures { OnOk result (HasUsageLine lines.old → HasUsageLine lines.new) }
 {
-    for octet in text.as_bytes() {
-        put_visible(lines, *octet)?;
+    for character in text.chars() {
+        put_visible(lines, character)?;
     }
     Ok(())
 }

@@ -13,7 +13,7 @@ static TORVIEW: [Entry; 4] = [
         "most",
         1,
         2000,
-        "Draw at most this many providers, this many peers and this many customers, 1 to 2000 [default: 60]",
+        "Draw at most this many providers, this many peers and this many customers, 1 to 2000 [default: 60, and 11 from --depth 2 on]",
     ),
     Entry::Number(
         "depth",
@@ -24,7 +24,7 @@ static TORVIEW: [Entry; 4] = [
     Entry::Needed("result", "A result that meets all rules"),
     Entry::Needed(
         "as",
-        "The AS to draw, with its providers above, its peers beside and its customers below",
+        "The AS to draw, with its providers above, its peers below and its customers below those",
     ),
 ];
 

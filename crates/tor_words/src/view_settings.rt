@@ -4,11 +4,12 @@ ghost use Rattle.clap.specs.Words.{found_of, rows_of};
 ghost use Rattle.tor_words.specs.ViewGiven.{AreFew, depth_in, drawn_in, most_in, view_settings_in, view_settings_given};
 ghost use Rattle.tor_words.specs.Refused.{IsUsage, SaysUsage};
 
+use crate::as_words::as_named;
 use crate::found::first;
 use crate::matching::matches_of;
 use crate::name::Name;
 use crate::refused::{WordsRefused, usage};
-use crate::values::{number_or, short_number};
+use crate::values::number_or;
 use crate::view_command::view_command;
 use clap::ArgMatches;
 use std::alloc::Global;
@@ -27,12 +28,13 @@ pub struct ViewSettings {
     pub depth: u32,
 }
 
-// How many neighbours of each group are drawn at most.
-fn most_in(matches: &ArgMatches) -> Option<u32>
-    ensures value { result ≡ most_in (rows_of (found_of matches.now)) }
+// How many neighbours of each group are drawn at most beside so many generations.
+fn most_in(depth: u32, matches: &ArgMatches) -> Option<u32>
+    ensures value { result ≡ most_in depth (rows_of (found_of matches.now)) }
     ensures within { IfSome result (λ most. (1 ≤ most) × (most ≤ 2000)) }
 {
-    match number_or(first(matches, "most"), 1, 2000, 60) {
+    let usual = if depth > 1 { 11 } else { 60 };
+    match number_or(first(matches, "most"), 1, 2000, usual) {
         Some(most) => Some(most as u32),
         None => None,
     }
@@ -54,7 +56,7 @@ fn drawn_in(matches: &ArgMatches) -> Option<u32>
     ensures { result ≡ drawn_in (rows_of (found_of matches.now)) }
 {
     match first(matches, "as") {
-        Some(text) => short_number(text),
+        Some(text) => as_named(text),
         None => None,
     }
 }
@@ -72,11 +74,11 @@ fn view_settings_in(alloc: Global, matches: &ArgMatches) -> Result<ViewSettings,
     let Some(asked) = drawn_in(matches) else {
         return Err(usage(alloc, "an AS is named by a number from 0 to 4294967295\n"));
     };
-    let Some(most) = most_in(matches) else {
-        return Err(usage(alloc, "--most takes a number from 1 to 2000\n"));
-    };
     let Some(depth) = depth_in(matches) else {
         return Err(usage(alloc, "--depth takes a number from 1 to 8\n"));
+    };
+    let Some(most) = most_in(depth, matches) else {
+        return Err(usage(alloc, "--most takes a number from 1 to 2000\n"));
     };
     match Name::from_text(alloc, text) {
         Ok(result) => Ok(ViewSettings {

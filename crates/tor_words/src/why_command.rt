@@ -17,7 +17,7 @@ static TORWHY: [Entry; 3] = [
     Entry::Needed("result", "A result that meets all rules"),
     Entry::Rest(
         "as",
-        "Two neighbouring ASes, in either order: why the label of their edge is forced, or how it could be another",
+        "Two neighbouring ASes, in either order: why the label of their edge is forced, or how it could be another; or one AS: its neighbours",
     ),
 ];
 

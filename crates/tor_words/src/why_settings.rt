@@ -1,9 +1,11 @@
 //! The settings of a telling.
 ghost use Rattle.std.specs.Prelude.{◌≡◌, IfOk, IfErr, Some, None, map, option_map};
 ghost use Rattle.clap.specs.Words.{found_of, rows_of};
-ghost use Rattle.tor_words.specs.WhyGiven.{asked_in, edge_asked, path_asked, what_asked, why_settings_in, why_settings_given};
+ghost use Rattle.tor_words.specs.WhyGiven.{asked_in, ases_asked, edge_asked, neighbours_asked, path_asked, what_asked};
+ghost use Rattle.tor_words.specs.WhyGiven.{why_settings_in, why_settings_given};
 ghost use Rattle.tor_words.specs.Refused.{IsUsage, SaysUsage};
 
+use crate::as_words::as_named;
 use crate::found::first;
 use crate::matching::matches_of;
 use crate::name::Name;
@@ -21,9 +23,12 @@ pub enum Asked {
     Edge { one: u32, other: u32 },
     /// Why the path of this number is kept or lost.
     Path { number: u32 },
+    /// Which neighbours this AS has, and what they are to it.
+    Neighbours { asked: u32 },
 }
 
-/// What a run of `torwhy` is asked for: why an edge of a result is what it is, or why a path is kept or lost.
+/// What a run of `torwhy` is asked for: why an edge of a result is what it is, why a path is kept or lost, or which
+/// neighbours an AS has.
 #[derive(Drop)]
 pub struct WhySettings {
     /// The name of the result file.
@@ -58,14 +63,35 @@ fn path_asked(number: Option<u32>) -> Option<Asked>
     }
 }
 
-// What is asked: of the path of a number, with no AS beside it, or of the edge of two ASes; or nothing.
+// The neighbours of an AS.
+fn neighbours_asked(asked: Option<u32>) -> Option<Asked>
+    ensures { result ≡ neighbours_asked asked }
+{
+    match asked {
+        Some(asked) => Some(Asked::Neighbours { asked }),
+        None => None,
+    }
+}
+
+// The neighbours of one AS, or the edge of two.
+fn ases_asked(ases: &[&str]) -> Option<Asked>
+    ensures { result ≡ ases_asked (map (λ t. t.now) ases.now) }
+{
+    match ases {
+        [asked] => neighbours_asked(as_named(asked)),
+        [one, other] => edge_asked(as_named(one), as_named(other)),
+        _ => None,
+    }
+}
+
+// What is asked: of the path of a number, with no AS beside it, or of ASes; or nothing.
 fn what_asked(path: Option<&str>, ases: &[&str]) -> Option<Asked>
     ensures { result ≡ what_asked (option_map (λ s. s.now) path.entry) (map (λ t. t.now) ases.now) }
 {
     match (path, ases) {
         (Some(text), []) => path_asked(short_number(text)),
-        (None, [one, other]) => edge_asked(short_number(one), short_number(other)),
-        _ => None,
+        (Some(_), _) => None,
+        (None, ases) => ases_asked(ases),
     }
 }
 
@@ -82,7 +108,7 @@ fn asked_in(matches: &ArgMatches) -> Option<Asked>
 
 /// Why words are refused that ask for no one thing.
 const ONE_QUESTION: &str =
-    "two different ASes are named, or --path with a number, each from 0 to 4294967295\n";
+    "an AS is named, or two different ones, or --path with a number, each from 0 to 4294967295\n";
 
 // The settings that the matches give, if the result is named, and one thing is asked of it.
 fn why_settings_in(alloc: Global, matches: &ArgMatches) -> Result<WhySettings, WordsRefused>

@@ -73,13 +73,23 @@ fn opens<H: Shelf>(shelf: &mut H, name: &str) -> bool {
     shelf.open_file(name).is_ok()
 }
 
-/// Whether nothing is read where no file is open, and none is where a name isn't there or is a folder's.
-fn is_read_right<H: Shelf>(alloc: Global, shelf: &mut H) -> bool {
-    gives(shelf, 3, b"")
-        && opens(shelf, "long")
-        && is_given_whole(alloc, shelf)
+/// Whether nothing of a file that is begun is read behind an open that fails.
+fn is_left_behind<H: Shelf>(shelf: &mut H) -> bool {
+    opens(shelf, "long")
+        && gives(shelf, 3, b"aaa")
         && shelf.open_file("absent") == Err(OpenRefused::Failed)
         && gives(shelf, 3, b"")
+}
+
+/// Whether nothing is read where no file is open, and none is where a name isn't there or is a folder's; and whether a file is read from
+/// its start also where another one was begun.
+fn is_read_right<H: Shelf>(alloc: Global, shelf: &mut H) -> bool {
+    gives(shelf, 3, b"")
+        && is_left_behind(shelf)
+        && opens(shelf, "long")
+        && gives(shelf, 3, b"aaa")
+        && opens(shelf, "long")
+        && is_given_whole(alloc, shelf)
         && (!opens(shelf, ".") || shelf.read(&mut [0; 4]).is_err())
 }
 

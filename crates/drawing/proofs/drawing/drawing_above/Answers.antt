@@ -1,36 +1,30 @@
-use Rattle.std.proofs.Common.{◌≤◌, All, sym, subst}
-use Rattle.drawing.specs.Generations.{rows_with, rank_above}
-use Rattle.drawing.specs.Page.{IsCell}
-use Rattle.drawing.proofs.Perching.{rank_from, perches_are_cells, lower_are_cells, upper_are_cells}
+use Rattle.std.proofs.Common.{◌∙◌, ap, length, sym, subst}
+use Rattle.drawing.specs.Entries.{box_entries}
+use Rattle.drawing.specs.Generations.{perches, widest}
+use Rattle.drawing.specs.Picture.{HasCells, plan_of}
+use Rattle.drawing.proofs.Perching.{sizes_many}
+use Rattle.drawing.proofs.Tidying.{cells_are}
 use Rattle.drawing.proofs.drawing.drawing_above.Goals as goal
 
-pub drawing_of-drawing-requires-clause-rows : goal.drawing_of-drawing-requires-clause-rows
-drawing_of-drawing-requires-clause-rows c =
-    let first = c.args.groups.now.providers.items in
+pub drawing_of-drawing-requires-clause-sizes : goal.drawing_of-drawing-requires-clause-sizes
+drawing_of-drawing-requires-clause-sizes c =
     let all = c.in_ok-tower.ensures.all in
     let is = all.2 in
-    (subst (λ r. rows_with c.args.most first ≤ r) (sym is.rank_is) (rank_from c.args.most first all.0), c.in_ok-tower.ensures.low)
+    ap length is.sizes_are ∙ sizes_many all.0 ∙ sym is.rank_is
 
-pub drawing_of-drawing-requires-clause-perches : goal.drawing_of-drawing-requires-clause-perches
-drawing_of-drawing-requires-clause-perches c =
+pub drawing_of-drawing-requires-clause-cells : goal.drawing_of-drawing-requires-clause-cells
+drawing_of-drawing-requires-clause-cells c =
     let all = c.in_ok-tower.ensures.all in
+    let gs = all.0 in
     let is = all.2 in
-    subst (λ r. All (λ q. IsCell r q.cell) c.in_ok-tower.tower.perches.items) (sym is.rank_is)
-    (subst (All (λ q. IsCell (rank_above c.args.most c.args.groups.now.providers.items all.0) q.cell))
-    (sym is.perches_are) (perches_are_cells c.args.most c.args.groups.now.providers.items all.0))
-
-pub drawing_of-drawing-requires-clause-lower : goal.drawing_of-drawing-requires-clause-lower
-drawing_of-drawing-requires-clause-lower c =
-    let all = c.in_ok-tower.ensures.all in
-    let is = all.2 in
-    subst (λ r. All (λ t. IsCell r t.lower) c.in_ok-tower.tower.ties.items) (sym is.rank_is)
-    (subst (All (λ t. IsCell (rank_above c.args.most c.args.groups.now.providers.items all.0) t.lower))
-    (sym is.ties_are) (lower_are_cells c.args.edges.now c.args.most c.args.groups.now.providers.items all.0))
-
-pub drawing_of-drawing-requires-clause-upper : goal.drawing_of-drawing-requires-clause-upper
-drawing_of-drawing-requires-clause-upper c =
-    let all = c.in_ok-tower.ensures.all in
-    let is = all.2 in
-    subst (λ r. All (λ t. IsCell r t.upper) c.in_ok-tower.tower.ties.items) (sym is.rank_is)
-    (subst (All (λ t. IsCell (rank_above c.args.most c.args.groups.now.providers.items all.0) t.upper))
-    (sym is.ties_are) (upper_are_cells c.args.edges.now c.args.most c.args.groups.now.providers.items all.0))
+    let tower = c.in_ok-tower.tower in
+    let most = c.args.most in
+    let groups = c.args.groups.now in
+    let above = box_entries most groups.providers.items in
+    let beside = box_entries most groups.peers.items in
+    let below = box_entries most groups.customers.items in
+    subst (λ r. HasCells (plan_of above beside below r tower.widest) tower.perches.items tower.ties.items) (sym is.rank_is)
+    (subst (λ w. HasCells (plan_of above beside below (length gs) w) tower.perches.items tower.ties.items) (sym is.widest_is)
+    (subst (λ ps. HasCells (plan_of above beside below (length gs) (widest most gs)) ps tower.ties.items) (sym is.perches_are)
+    (subst (HasCells (plan_of above beside below (length gs) (widest most gs)) (perches most gs)) (sym is.ties_are)
+    (cells_are c.args.edges.now most groups.providers.items groups.peers.items groups.customers.items gs))))

@@ -1,28 +1,36 @@
-use Rattle.std.proofs.Common.{◌≡◌, ℕ, List, ◌∙◌, ap, map}
+use Rattle.std.proofs.Common.{◌≡◌, ℕ, List, ◌∙◌, ap}
 use Rattle.drawing.specs.declared.group.NeighbourCounts.{NeighbourCounts}
 use Rattle.drawing.specs.declared.page.Rect.{Rect}
+use Rattle.drawing.specs.declared.drawing.Band.{Band}
 use Rattle.drawing.specs.declared.drawing.Drawing.{Drawing}
 use Rattle.drawing.specs.declared.drawing.Item.{Item}
 use Rattle.drawing.specs.declared.drawing.RisingLine.{RisingLine}
 use Rattle.drawing.specs.declared.drawing.Post.{Post}
-use Rattle.drawing.specs.Picture.{greatest_of, items_of, link_of, post_of}
+use Rattle.drawing.specs.Picture.{bands_of}
 use Rattle.drawing.proofs.drawing.drawing_with.Goals as goal
 
-abbrev made : ℕ → NeighbourCounts → ℕ → Rect → List Item → List Post → List RisingLine → Drawing
-made a counts height centre items posts links = record { asked = a; counts = counts; height = height; centre = centre; items = items; posts = posts; links = links }
+abbrev made : ℕ → NeighbourCounts → ℕ → ℕ → Rect → List Band → List Item → List Post → List RisingLine → Drawing
+made a counts width height centre bands items posts links = record {
+  asked = a;
+  counts = counts;
+  width = width;
+  height = height;
+  centre = centre;
+  bands = bands;
+  items = items;
+  posts = posts;
+  links = links;
+}
 
-same_made : (a : ℕ) (counts : NeighbourCounts) (h h' : ℕ) (r r' : Rect) (is is' : List Item) (ps ps' : List Post) (ls ls' : List RisingLine) →
-    h ≡ h' → r ≡ r' → is ≡ is' → ps ≡ ps' → ls ≡ ls' → made a counts h r is ps ls ≡ made a counts h' r' is' ps' ls'
-same_made a counts h h' r r' is is' ps ps' ls ls' height centre items posts links =
-    ap (λ x. made a counts x r is ps ls) height ∙ ap (λ x. made a counts h' x is ps ls) centre ∙ ap (λ x. made a counts h' r' x ps ls) items
-    ∙ ap (λ x. made a counts h' r' is' x ls) posts ∙ ap (λ x. made a counts h' r' is' ps' x) links
+same_made : (a : ℕ) (counts : NeighbourCounts) (w w' h h' : ℕ) (r r' : Rect) (bs bs' : List Band) (is is' : List Item) (ps ps' : List Post) (ls ls' : List RisingLine) →
+    w ≡ w' → h ≡ h' → r ≡ r' → bs ≡ bs' → is ≡ is' → ps ≡ ps' → ls ≡ ls' → made a counts w h r bs is ps ls ≡ made a counts w' h' r' bs' is' ps' ls'
+same_made a counts w w' h h' r r' bs bs' is is' ps ps' ls ls' width height centre bands items posts links =
+    ap (λ x. made a counts x h r bs is ps ls) width ∙ ap (λ x. made a counts w' x r bs is ps ls) height ∙ ap (λ x. made a counts w' h' x bs is ps ls) centre
+    ∙ ap (λ x. made a counts w' h' r' x is ps ls) bands ∙ ap (λ x. made a counts w' h' r' bs' x ps ls) items
+    ∙ ap (λ x. made a counts w' h' r' bs' is' x ls) posts ∙ ap (λ x. made a counts w' h' r' bs' is' ps' x) links
 
-pub returns-in-Ok-links_of-clause-is : goal.returns-in-Ok-links_of-clause-is
-returns-in-Ok-links_of-clause-is c =
-    let plan = c.args.plan.now in
-    let entries = c.args.entries.now in
-    let ties = c.args.tower.now.ties.items in
-    let greatest = c.greatest_of-greatest.ensures ∙ ap (greatest_of entries) c.deref.ensures.value in
-    same_made c.args.asked c.args.counts _ _ _ _ _ _ _ _ _ _ c.page_height.ensures.is c.centre_box.ensures
-    (c.in_ok-items.ensures ∙ ap (λ g. items_of plan g entries) greatest) (c.in-Ok.ensures ∙ ap (map (post_of plan)) c.deref-2.ensures.value)
-    (c.in-Ok-links_of.ensures ∙ ap (map (link_of plan c.greatest_of-greatest.result)) c.deref-3.ensures.value ∙ ap (λ g. map (link_of plan g) ties) greatest)
+pub returns-in-Ok-height_of-clause-is : goal.returns-in-Ok-height_of-clause-is
+returns-in-Ok-height_of-clause-is c =
+    same_made c.args.asked c.args.counts _ _ _ _ _ _ _ _ _ _ _ _ _ _ c.page_width.ensures.is c.page_height.ensures.is c.centre_box.ensures
+    (c.in_ok-bands.ensures ∙ ap (bands_of c.args.plan.now c.args.counts) c.deref.ensures.value) c.in-Ok.ensures
+    c.in-Ok-height_of.ensures.posts c.in-Ok-height_of.ensures.links

@@ -6,7 +6,7 @@ use Rattle.drawing.proofs.drawing.items_of.Goals as goal
 
 pub loop-place-preserved : goal.loop-place-preserved
 loop-place-preserved c =
-    let f = item_of c.args.plan.now c.args.greatest in
+    let f = item_of c.args.plan.now in
     let few : c.loop-place.place < length c.args.entries.now = omega arith in
     let push = c.push_reserved.ensures in
     let len = push.len in
@@ -21,4 +21,4 @@ loop-place-preserved c =
 pub returns : goal.returns
 returns c =
     let all : c.loop-place.place ≡ length c.args.entries.now = omega arith in
-    c.from_vec.ensures ∙ c.loop-place.invariant.0 ∙ numbered_all (item_of c.args.plan.now c.args.greatest) c.args.entries.now c.loop-place.place all
+    c.from_vec.ensures ∙ c.loop-place.invariant.0 ∙ numbered_all (item_of c.args.plan.now) c.args.entries.now c.loop-place.place all

@@ -5,5 +5,5 @@ use Rattle.drawing.proofs.drawing.items_of.Given as goal
 
 abbrev pub invariant-loop-place : goal.invariant-loop-place
 invariant-loop-place l =
-    (l.items.items ≡ map (item_of l.plan l.greatest) (take l.place (enumerate_from 0 l.entries)))
+    (l.items.items ≡ map (item_of l.plan) (take l.place (enumerate_from 0 l.entries)))
     × (l.items.len + length l.entries ≤ l.items.cap + l.place)

@@ -5,7 +5,7 @@ use Rattle.drawing.proofs.drawing.links_of.Goals as goal
 
 pub loop-tie-preserved : goal.loop-tie-preserved
 loop-tie-preserved c =
-    let f = link_of c.args.plan.now c.args.greatest in
+    let f = link_of c.args.plan.now in
     let l = c.loop-tie in
     let push = c.push_reserved.ensures in
     let len = push.len in
@@ -20,4 +20,4 @@ loop-tie-preserved c =
 pub returns : goal.returns
 returns c =
     let l = c.loop-tie in
-    c.from_vec.ensures ∙ l.invariant.0 ∙ ap (map (link_of c.args.plan.now c.args.greatest)) (take_all l.tie-index c.args.ties.now (omega (arith, c.loop-tie-test.false)))
+    c.from_vec.ensures ∙ l.invariant.0 ∙ ap (map (link_of c.args.plan.now)) (take_all l.tie-index c.args.ties.now (omega (arith, c.loop-tie-test.false)))

@@ -2,6 +2,7 @@ use Rattle.std.proofs.Common.{◌∙◌, ◌++◌, ap, codes, subst, sym}
 use Rattle.std.proofs.lemmas.Option.{same_Some}
 use Rattle.drawing.specs.Svg.{svg_text}
 use Rattle.drawing.specs.Xml.{IsDocument}
+use Rattle.drawing.proofs.Marks.{picture_shows_marks}
 use Rattle.drawing.proofs.WellFormed.{picture_well_formed}
 use Rattle.drawing.proofs.printing.svg_of.Goals as goal
 
@@ -11,3 +12,9 @@ returns-in-Ok-clause-text c =
 
 pub returns-in-Ok-clause-well_formed : goal.returns-in-Ok-clause-well_formed
 returns-in-Ok-clause-well_formed c = subst (IsDocument (codes "svg")) (sym (returns-in-Ok-clause-text c)) (picture_well_formed c.args.drawing.now)
+
+pub returns-in-Ok-clause-marks : goal.returns-in-Ok-clause-marks
+returns-in-Ok-clause-marks c = picture_shows_marks c.args.drawing.now
+
+pub returns-in-Err-clause-marks : goal.returns-in-Err-clause-marks
+returns-in-Err-clause-marks c = picture_shows_marks c.args.drawing.now

@@ -1,9 +1,9 @@
-use Rattle.std.proofs.Common.{◌<◌, Err, List, ℕ, length, take, ap, ◌∙◌, subst, arith}
-use Rattle.std.specs.Prelude.{fold, sum_by}
-use Rattle.tor_arena.specs.Limits.{max_paths, max_numbers}
+use Rattle.std.proofs.Common.{◌≡◌, Err, List, None, Some, ℕ, length, take, ap, ◌∙◌, subst, arith}
+use Rattle.std.specs.Prelude.{◌⊎◌, IfErr, OnOk}
+use Rattle.path_table.specs.declared.table.AddRefused.{AddRefused}
 use Rattle.path_table.specs.Rows.{row_paths}
 use Rattle.result_rules.specs.declared.rule.Rule.TheVariants.{PathsDistinct}
-use Rattle.route_leaks.specs.Leaks.{with_new}
+use Rattle.route_leaks.specs.Leaks.{limit_beside}
 use Rattle.route_leaks.proofs.Assembling.{few_paths, its_all_paths, its_row_paths}
 use Rattle.route_leaks.proofs.leaks.leaks_of.Goals as goal
 
@@ -26,12 +26,13 @@ leaks_beside-requires-clause-begins c =
       begins = ap (λ (ps : List (List ℕ)). take (length file.paths) ps) (ap row_paths c.in-Ok.ensures.rows ∙ its_row_paths file) ∙ its_all_paths file;
     }
 
-pub returns-in-Ok-clause-paths : goal.returns-in-Ok-clause-paths
-returns-in-Ok-clause-paths c e =
+pub returns-in-Ok-clause-room : goal.returns-in-Ok-clause-room
+returns-in-Ok-clause-room c =
     let paths = ap row_paths c.in-Ok.ensures.rows ∙ its_row_paths c.args.file in
-    subst (λ (ps : List (List ℕ)). max_paths < length (fold with_new ps (row_paths c.args.seen))) paths (c.leaks_beside.ensures.paths e)
+    subst (λ (ps : List (List ℕ)). OnOk c.leaks_beside.result (limit_beside ps (row_paths c.args.seen) ≡ None)) paths c.leaks_beside.ensures.room
 
-pub returns-in-Ok-clause-numbers : goal.returns-in-Ok-clause-numbers
-returns-in-Ok-clause-numbers c e =
+pub returns-in-Ok-clause-limit_met : goal.returns-in-Ok-clause-limit_met
+returns-in-Ok-clause-limit_met c =
     let paths = ap row_paths c.in-Ok.ensures.rows ∙ its_row_paths c.args.file in
-    subst (λ (ps : List (List ℕ)). max_numbers < sum_by length (fold with_new ps (row_paths c.args.seen))) paths (c.leaks_beside.ensures.numbers e)
+    subst (λ (ps : List (List ℕ)). IfErr c.leaks_beside.result (λ why. (why ≡ AddRefused.NoMemory) ⊎ (limit_beside ps (row_paths c.args.seen) ≡ Some why))) paths
+    c.leaks_beside.ensures.limit_met

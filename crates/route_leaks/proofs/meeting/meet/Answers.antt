@@ -1,13 +1,13 @@
 use Rattle.std.proofs.Common.{◌≡◌, ◌<◌, ◌≤◌, ◌+◌, All, List, ℕ, Some, get_or, map, slice_get, take, length, rules, sym, ap, ◌∙◌, subst, arith}
-use Rattle.std.specs.Prelude.{IfSome, sum_by}
-use Rattle.std.proofs.lemmas.List.{length-map, take-map}
+use Rattle.std.specs.Prelude.{◌⊎◌, fold, IfSome}
+use Rattle.std.proofs.lemmas.List.{length-map, take-map, take_all}
 use Rattle.path_table.specs.declared.table.AddRefused.{AddRefused}
 use Rattle.path_table.specs.Rows.{Counted, row_paths}
 use Rattle.path_table.proofs.AddLemmas.{err-moved}
 use Rattle.route_leaks.specs.declared.meeting.Sighting.{Sighting}
-use Rattle.route_leaks.specs.Inside.{is_kept_in}
-use Rattle.route_leaks.specs.Leaks.{row_met, with_new}
-use Rattle.route_leaks.proofs.Meetings.{clean_at, few_met, length_taken, known_next, known_still, length_on, met_more, met_next, next_on, not_kept, numbers_on, often_at, rows_next, there_more, there_next, there_paths, there_rows}
+use Rattle.route_leaks.specs.Inside.{is_kept_in, FitLimits}
+use Rattle.route_leaks.specs.Leaks.{limit_passed, row_met, with_new}
+use Rattle.route_leaks.proofs.Meetings.{clean_at, few_met, first_met, length_taken, known_next, known_still, met_more, met_next, none_beside, not_kept, often_at, rows_next, there_more, there_next, there_paths, there_rows}
 use Rattle.route_leaks.proofs.meeting.meet.Goals as goal
 
 pub place_beside-requires-clause-clean : goal.place_beside-requires-clause-clean
@@ -16,31 +16,25 @@ place_beside-requires-clause-clean c =
     let at = subst (λ (ps : List (List ℕ)). slice_get ps c.unwrap.result ≡ Some c.row-path.result.now) c.rows-rows.ensures c.row-path.ensures in
     clean_at (row_paths c.args.seen.now) c.unwrap.result c.row-path.result.now c.facts.ensures.rows.clean at
 
-pub returns-in-Err-clause-paths : goal.returns-in-Err-clause-paths
-returns-in-Err-clause-paths c e =
+pub returns-in-Err-clause-limit_met : goal.returns-in-Err-clause-limit_met
+returns-in-Err-clause-limit_met c =
     let start = row_paths c.args.table.now.rows in
     let seen = row_paths c.args.seen.now in
     let k = c.loop-place.place in
+    let path = c.row-path.result.now in
     let same : c.unwrap.result ≡ c.loop-place.place = search rules in
-    let at = subst (λ (n : ℕ). slice_get seen n ≡ Some c.row-path.result.now) same
-    (subst (λ (ps : List (List ℕ)). slice_get ps c.unwrap.result ≡ Some c.row-path.result.now) c.rows-rows.ensures c.row-path.ensures) in
-    let over = c.in-Err.ensures.paths (err-moved c.in-Err.refused AddRefused.TooManyPaths e) in
-    let next = ap length (next_on start seen k c.row-path.result.now at) in
-    let now = ap (λ (ps : List (List ℕ)). length (with_new ps c.row-path.result.now)) c.loop-place.invariant.rows in
-    omega (arith, over, next, now, length_on start seen (k + 1))
+    let at = subst (λ (n : ℕ). slice_get seen n ≡ Some path) same (subst (λ (ps : List (List ℕ)). slice_get ps c.unwrap.result ≡ Some path) c.rows-rows.ensures c.row-path.ensures) in
+    let rows = c.loop-place.invariant.rows in
+    first_met start seen k path c.in-Err.refused at (subst FitLimits rows c.place_beside.ensures.fit)
+    (subst (λ (ps : List (List ℕ)). (c.in-Err.refused ≡ AddRefused.NoMemory) ⊎ (limit_passed (with_new ps path) ≡ Some c.in-Err.refused)) rows c.in-Err.ensures.limit_met)
 
-pub returns-in-Err-clause-numbers : goal.returns-in-Err-clause-numbers
-returns-in-Err-clause-numbers c e =
+pub returns-clause-room : goal.returns-clause-room
+returns-clause-room c =
     let start = row_paths c.args.table.now.rows in
     let seen = row_paths c.args.seen.now in
-    let k = c.loop-place.place in
-    let same : c.unwrap.result ≡ c.loop-place.place = search rules in
-    let at = subst (λ (n : ℕ). slice_get seen n ≡ Some c.row-path.result.now) same
-    (subst (λ (ps : List (List ℕ)). slice_get ps c.unwrap.result ≡ Some c.row-path.result.now) c.rows-rows.ensures c.row-path.ensures) in
-    let over = c.in-Err.ensures.numbers (err-moved c.in-Err.refused AddRefused.TooManyNumbers e) in
-    let next = ap (sum_by length) (next_on start seen k c.row-path.result.now at) in
-    let now = ap (λ (ps : List (List ℕ)). sum_by length (with_new ps c.row-path.result.now)) c.loop-place.invariant.rows in
-    omega (arith, over, next, now, numbers_on start seen (k + 1))
+    let many = ap length c.rows-rows.ensures in
+    let all = c.loop-place.invariant.rows ∙ ap (fold with_new start) (take_all c.loop-place.place seen (omega (arith, many, c.len-place-end.ensures, c.loop-place-test.false))) in
+    none_beside start seen (subst FitLimits all (c.facts-2.ensures.few, c.facts-2.ensures.numbers))
 
 pub loop-place-preserved : goal.loop-place-preserved
 loop-place-preserved c =

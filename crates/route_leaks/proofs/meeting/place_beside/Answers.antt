@@ -1,13 +1,9 @@
-use Rattle.std.proofs.Common.{◌≡◌, ◌++◌, ◌∷◌, [], List, ℕ, Some, slice_get, length, refl, sym, ap, ◌∙◌, subst, arith}
-use Rattle.std.specs.Prelude.{sum_by}
+use Rattle.std.proofs.Common.{◌≡◌, ◌++◌, ◌∷◌, [], List, ℕ, Some, Err, slice_get, length, refl, sym, ap, ◌∙◌, subst}
 use Rattle.std.proofs.lemmas.Bool.{false≢true}
-use Rattle.std.proofs.lemmas.List.{length-append, length-map, map-append}
-use Rattle.std.proofs.lemmas.List.Sums.{sum_by-append, sum_by-cons}
+use Rattle.std.proofs.lemmas.List.{length-map, map-append}
 use Rattle.tor_arena.proofs.Gets.{slice_get-push_last}
-use Rattle.path_table.specs.declared.table.AddRefused.{AddRefused}
 use Rattle.path_table.specs.Rows.{Counted, row_paths}
-use Rattle.path_table.proofs.AddLemmas.{err-moved}
-use Rattle.route_leaks.proofs.Meetings.{kept_by, kept_place, none_of_place, numbers_same, one_of_place, there_at, with_known, with_unknown}
+use Rattle.route_leaks.proofs.Meetings.{kept_by, kept_place, none_of_place, one_of_place, passed_by, there_at, with_known, with_unknown}
 use Rattle.route_leaks.proofs.meeting.place_beside.Goals as goal
 
 pub returns-then-is_kept_at-clause-rows : goal.returns-then-is_kept_at-clause-rows
@@ -64,21 +60,7 @@ returns-in-Ok-clause-there c =
     subst (λ (ps : List (List ℕ)). slice_get ps c.in-Ok.id ≡ Some path) (sym last)
     (subst (λ (k : ℕ). slice_get (row_paths rows ++ path ∷ []) k ≡ Some path) (sym place) (slice_get-push_last (row_paths rows) path))
 
-pub returns-in-Err-clause-paths : goal.returns-in-Err-clause-paths
-returns-in-Err-clause-paths c e =
-    let rows = c.args.table.now.rows in
-    let path = c.args.path.now in
-    let many = c.in-Err.ensures.paths.0 (err-moved c.in-Err.refused AddRefused.TooManyPaths e) in
-    let full = many.1 in
-    let limit = c.requires.limit in
-    let new = ap length (with_unknown (row_paths rows) path (none_of_place rows path many.0)) in
-    omega (arith, full, limit, new, length-append (row_paths rows) (path ∷ []), length-map rows (λ (row : Counted). row.path))
-
-pub returns-in-Err-clause-numbers : goal.returns-in-Err-clause-numbers
-returns-in-Err-clause-numbers c e =
-    let rows = c.args.table.now.rows in
-    let path = c.args.path.now in
-    let many = c.in-Err.ensures.numbers.0 (err-moved c.in-Err.refused AddRefused.TooManyNumbers e) in
-    let over = many.2 in
-    let new = ap (sum_by length) (with_unknown (row_paths rows) path (none_of_place rows path many.0)) in
-    omega (arith, over, new, numbers_same rows, sum_by-append length (row_paths rows) (path ∷ []), sum_by-cons length path [])
+pub returns-in-Err-clause-limit_met : goal.returns-in-Err-clause-limit_met
+returns-in-Err-clause-limit_met c =
+    passed_by c.args.table.now c.args.path.now c.in-Err.refused c.requires.limit
+    (λ is. c.in-Err.ensures.paths.0 (ap (λ e. Err e) is)) (λ is. c.in-Err.ensures.numbers.0 (ap (λ e. Err e) is))

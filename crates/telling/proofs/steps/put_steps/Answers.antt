@@ -1,11 +1,13 @@
 use Rattle.std.proofs.Common.{suc, ◌+◌, ◌<◌, ◌≤◌, ◌⊎◌, inl, inr, length, ap, arith}
-use Rattle.std.specs.List.{flat_map}
 use Rattle.std.proofs.lemmas.List.{take_all}
-use Rattle.tor_io.proofs.Putting.{puts_as}
 use Rattle.relationships.specs.Telling.{steps_of}
-use Rattle.telling.specs.WalkText.{step_text}
-use Rattle.telling.proofs.WalkTextLemmas.{lesser, one_more, step_in, few_steps}
+use Rattle.telling.specs.WalkText.{names_of, steps_text}
+use Rattle.telling.proofs.NamingLemmas.{naming_as, naming_none, naming_step}
+use Rattle.telling.proofs.WalkTextLemmas.{lesser, step_in, few_steps}
 use Rattle.telling.proofs.steps.put_steps.Goals as goal
+
+pub loop-at-init : goal.loop-at-init
+loop-at-init g c = naming_none _ c.args.named.now
 
 pub loop-at-preserved : goal.loop-at-preserved
 loop-at-preserved g c =
@@ -15,7 +17,7 @@ loop-at-preserved g c =
     let least = lesser (length links) c.saturating_sub.result c.min-count.ensures in
     let low : at < length links = omega (arith, c.loop-at-test.true, least.0) in
     let in_front : at + 2 < length ases = omega (arith, c.loop-at-test.true, least.1, c.saturating_sub.ensures) in
-    one_more (step_text c.args.file.now) _ _ _ (steps_of ases links) at _ (step_in ases links at _ low in_front) c.loop-at.invariant c.put_step.ensures
+    naming_step c.args.file.now (steps_of ases links) at _ (step_in ases links at _ low in_front) c.loop-at.invariant c.put_step.ensures
 
 pub returns : goal.returns
 returns g c =
@@ -27,4 +29,5 @@ returns g c =
       | inl l ↦ inl (omega (arith, l, c.loop-at-test.false))
       | inr l ↦ inr (omega (arith, l, c.loop-at-test.false, c.saturating_sub.ensures))
     ] in
-    puts_as c.loop-at.invariant (ap (flat_map (step_text c.args.file.now)) (take_all at (steps_of ases links) (few_steps ases links at all)))
+    let whole = take_all at (steps_of ases links) (few_steps ases links at all) in
+    naming_as c.loop-at.invariant (λ before. ap (steps_text c.args.file.now before) whole) (ap names_of whole)

@@ -1,4 +1,5 @@
-use Rattle.std.proofs.Common.{sym, ap, ap₂}
+use Rattle.std.proofs.Common.{[], sym, ap, ap₂}
+use Rattle.relationships.specs.Telling.{steps_of}
 use Rattle.tor_io.proofs.Putting.{puts_as, puts_then}
 use Rattle.result_text.specs.declared.line.Version.TheVariants as version
 use Rattle.telling.specs.WalkText.{steps_text}
@@ -14,7 +15,7 @@ returns-in-Forced g c =
 pub returns-in-Open : goal.returns-in-Open
 returns-in-Open g c =
     let file = c.args.file.now in
-    let steps = puts_as c.put_steps.ensures (ap₂ (λ ases links. steps_text file ases links) c.as_slice-in-Open.ensures c.as_slice-in-Open-2.ensures) in
+    let steps = puts_as (c.put_steps.ensures.puts [] c.requires.none) (ap (steps_text file []) (ap₂ steps_of c.as_slice-in-Open.ensures c.as_slice-in-Open-2.ensures)) in
     puts_as (puts_then (puts_then (puts_then (c.put_edge-in-Open.ensures version.Two) c.put_pair.ensures) steps) c.put.ensures) (ap (told_text file) (sym c.in-Open.is))
 
 pub returns-in-Peering : goal.returns-in-Peering

@@ -10,5 +10,5 @@ returns g c =
     let old = state (sink.held c.args.out.now) (sink.faults c.args.out.now) c.through-flow.result in
     let now = state (sink.held c.put_told.new.out) (sink.faults c.put_told.new.out) c.put_told.new.flow in
     let out = all_finished c.finish.result old now (sink.held c.finish.new.out) (sink.faults c.finish.new.out) (told_text c.args.file.now c.args.told.now)
-    (c.through-flow.ensures ∙ ap (λ xs. Some xs) c.requires) c.put_told.ensures c.finish.ensures in
+    (c.through-flow.ensures ∙ ap (λ xs. Some xs) c.requires.empty) c.put_told.ensures c.finish.ensures in
     record { all = out.0; prefix = out.1; cause = out.2 }

@@ -17,6 +17,8 @@ returns-clause-raised c =
       nearer = c.generation_above.new.nearer;
       topmost = old.topmost;
       rank = old.rank;
+      widest = old.widest;
+      sizes = old.sizes;
       perches = old.perches;
       ties = old.ties;
     } in
@@ -24,7 +26,7 @@ returns-clause-raised c =
     (λ stacked first near gs tower.
     let x = c.in_ok-generation.ensures (all_numbers near gs) tower.nearer in (
       g,
-      raised edges most first near gs g old middle new tower x.0 x.1 refl refl refl refl
+      raised edges most first near gs g old middle new tower x.0 x.1 refl refl refl refl refl refl
           (subst (λ h. IsStacked edges most h middle new) c.deref.ensures.value stacked),
     ))
     c.stack-done.ensures.stacked

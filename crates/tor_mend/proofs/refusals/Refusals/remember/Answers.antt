@@ -34,7 +34,7 @@ returns c =
     let links = subst (NamesOnly (c.place.result + 1) at) c.as_slice.ensures named in
     let alone = subst (λ n. NamesOnly (n + 1) at c.in-Lost.walk.links) c.place.ensures.place links in
     let one : IsPut r c.args.self.now.items.items c.put.new.self.items.items → Puts graph c.args.path c.in-Lost.walk c.args.self.now.items.items c.put.new.self.items.items =
-    λ put. record { refusal = r; put = put; named = refl; at = at; alone = alone; triple = triple } in
+    λ put. record { refusal = r; put = put; named = refl; counted = c.len.ensures; at = at; alone = alone; triple = triple } in
     record {
       remembers = on_ok c.put.result (λ either. subst (λ f. Remembers graph c.args.path f c.args.self.now.items.items c.put.new.self.items.items) (sym c.in-Lost.is)
           (elim either [ inl same ↦ inl same | inr put ↦ inr (one put) ])) c.put.ensures.put;

@@ -1,0 +1,12 @@
+use Rattle.std.proofs.Common.{take}
+use Rattle.std.specs.Prelude.{flat_map}
+use Rattle.tor_io.specs.Outflow.{state, Puts}
+use Rattle.drawing.specs.Svg.{band_nodes}
+use Rattle.drawing.specs.Xml.{nodes_text}
+use Rattle.drawing.proofs.printing.put_bands.Given as goal
+
+abbrev pub invariant-loop-band : goal.invariant-loop-band
+invariant-loop-band g l =
+    let sink = g.S.Sink in
+    Puts (state (sink.held l.fn.out) (sink.faults l.fn.out) l.fn.flow) (state (sink.held l.out) (sink.faults l.out) l.flow)
+    (nodes_text (flat_map band_nodes (take l.band-index l.bands)))

@@ -1,5 +1,0 @@
-use Rattle.tor_io.proofs.Putting.{puts_then}
-use Rattle.drawing.proofs.printing.put_next_point.Goals as goal
-
-pub returns : goal.returns
-returns g c = puts_then c.put_byte.ensures c.put_point.ensures
