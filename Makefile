@@ -14,7 +14,7 @@
 # make container  tries the archive of make dist on a bare system
 
 # A program has its man page in man/, its completions in completions/, and its stored run (args, data, stdout, status) in its crate.
-PROGRAMS = tor torcheck torgrade torrank torwhy torview
+PROGRAMS = tor torcheck torgrade torleak torrank torwhy torview
 
 # The logic of the kit with which all is proved, as `rt version` has it.
 LOGIC = dac8208d650f15bf

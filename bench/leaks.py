@@ -1,20 +1,21 @@
 #!/usr/bin/env python3
-"""Leaked routes found from one day to the next: by `tor --resume`, and by `torgrade`.
+"""Leaked routes found from one day to the next: by `torleak`, by `tor --resume`, and by `torgrade`.
 
-    python3 bench/leaks.py TOR TORGRADE
+    python3 bench/leaks.py TOR TORGRADE TORLEAK
 
 Pairs of tables, Monday's and Tuesday's, are made by internet.sh, which needs cc, with `--day 1` and `--day 2`: 15,000 networks, 40,000
 peerings, 20,000 prefixes, 40 vantage points, and the seeds 1, 2 and 3. Nothing differs from Monday to Tuesday but what is leaked, each day
-other 4 of 100 prefixes, and how some are announced: a tenth of the prefixes, and then all, are announced anew on each day. Four ways to an
-alarm are compared, each for paths of Tuesday's table that Monday's doesn't have:
+other 4 of 100 prefixes, and how some are announced: a tenth of the prefixes, and then all, are announced anew on each day. Ways to an alarm
+are compared, each for paths of Tuesday's table that Monday's doesn't have:
 
+- leak, valley, either: the lines of TORLEAK behind Monday's result;
 - resumed: the new `lost` lines of `TOR --resume` over Monday's result;
 - graded: the `valley` lines of TORGRADE under Monday's labels;
-- and both with the contracts of the Tier 1 given to Monday's result, as the README tells it.
+- each with Monday's result as it comes, with `--top` and the networks that buy from nobody, and with `--order short` besides.
 
 An alarm is true if its path isn't valley-free under the true relationships. For each pair and way a line of a table in Markdown says how
 many paths of Tuesday's are new, how many of these aren't valley-free, how many alarms there were, and how many of them were true. A second
-table has the sums. It takes two minutes, and 200 MB in TMPDIR.
+table has the sums. It takes four minutes, and 200 MB in TMPDIR.
 """
 import os
 import subprocess
@@ -27,6 +28,13 @@ from truth import head, percent, relationships, row
 HERE = os.path.dirname(os.path.abspath(__file__))
 SIZES = "--ases 15000 --peerings 40000 --prefixes 20000 --vantages 40".split()
 COLUMNS = ("new", "leaked", "alarms", "true")
+WAYS = {
+    "leak": ("leaks.txt", "leak"),
+    "valley": ("leaks.txt", "valley"),
+    "either": ("leaks.txt", "leak", "valley"),
+    "resumed": ("tuesday.txt", "lost"),
+    "graded": ("grades.txt", "valley"),
+}
 TITLES = ("Announced anew", "Seed", "Way", "New paths", "Leaked", "Alarms", "True", "Of the alarms", "Of the leaked")
 
 
@@ -58,15 +66,10 @@ def is_valley_free(path, truth):
     return True
 
 
-def contracts_of_tier1(truth, result):
-    """A line for each edge of the result with one end among the networks that buy from nobody."""
+def tier1(truth):
+    """The networks that buy from nobody."""
     buyers = {high if label == "low" else low for (low, high), label in truth.items() if label != "peer"}
-    lines = []
-    for _, low, high, *_ in fields_of(result, "edge"):
-        low_buys, high_buys = int(low) in buyers, int(high) in buyers
-        if low_buys != high_buys:
-            lines.append(f"{high}|{low}|-1\n" if low_buys else f"{low}|{high}|-1\n")
-    return lines
+    return sorted({number for edge in truth for number in edge} - buyers)
 
 
 def made(seed, changed):
@@ -78,19 +81,21 @@ def made(seed, changed):
     return relationships("truth")
 
 
-def alarms(tor, torgrade, truth, given):
-    """For both ways, what is counted: the new paths, the leaked ones among them, the alarms, and the true ones among these."""
-    run("monday.txt", tor, *given, "monday")
+def alarms(programs, truth, options):
+    """For each way, what is counted: the new paths, the leaked ones among them, the alarms, and the true ones among these."""
+    tor, torgrade, torleak = programs
+    run("monday.txt", tor, *options, "monday")
     run("tuesday.txt", tor, "--resume", "monday.txt", "tuesday")
-    run("rel.txt", tor, *given, "--serial1", "monday")
+    run("rel.txt", tor, *options, "--serial1", "monday")
     run("grades.txt", torgrade, "rel.txt", "tuesday")
+    run("leaks.txt", torleak, "monday.txt", "tuesday")
     known = set(paths_of("monday.txt", "kept", "lost"))
     new = [path for path in paths_of("tuesday.txt", "kept", "lost") if path not in known]
     leaked = {path for path in new if not is_valley_free([int(number) for number in path.split()], truth)}
-    found = []
-    for name, kind in (("tuesday.txt", "lost"), ("grades.txt", "valley")):
-        raised = [path for path in paths_of(name, kind) if path not in known]
-        found.append(Counter(new=len(new), leaked=len(leaked), alarms=len(raised), true=len(leaked.intersection(raised))))
+    found = {}
+    for way, (name, *kinds) in WAYS.items():
+        raised = [path for path in paths_of(name, *kinds) if path not in known]
+        found[way] = Counter(new=len(new), leaked=len(leaked), alarms=len(raised), true=len(leaked.intersection(raised)))
     return found
 
 
@@ -101,7 +106,7 @@ def line(changed, seed, way, count):
 
 
 def main():
-    tor, torgrade = (os.path.abspath(program) for program in sys.argv[1:3])
+    programs = [os.path.abspath(program) for program in sys.argv[1:4]]
     sums = {}
     head(*TITLES)
     with tempfile.TemporaryDirectory() as folder:
@@ -109,13 +114,11 @@ def main():
         for changed in (100000, 1000000):
             for seed in (1, 2, 3):
                 truth = made(seed, changed)
-                plain = alarms(tor, torgrade, truth, [])
-                with open("given", "w") as lines:
-                    lines.writelines(contracts_of_tier1(truth, "monday.txt"))
-                both = plain + alarms(tor, torgrade, truth, ["--given", "given"])
-                for way, count in zip(("resumed", "graded", "resumed, Tier 1 given", "graded, Tier 1 given"), both):
-                    line(changed, seed, way, count)
-                    sums.setdefault((changed, way), Counter()).update(count)
+                top = ["--top", ",".join(map(str, tier1(truth)))]
+                for behind, options in (("", []), (", top", top), (", top and short", [*top, "--order", "short"])):
+                    for way, count in alarms(programs, truth, options).items():
+                        line(changed, seed, way + behind, count)
+                        sums.setdefault((changed, way + behind), Counter()).update(count)
         os.chdir("/")
     head(*TITLES)
     for (changed, way), count in sums.items():

@@ -7,7 +7,8 @@
 #   bench/memory.sh BIN SAMPLES
 # BIN is the folder of the programs.
 set -uo pipefail
-tor=$1/tor torcheck=$1/torcheck torgrade=$1/torgrade torrank=$1/torrank torwhy=$1/torwhy torview=$1/torview samples=$2
+tor=$1/tor torcheck=$1/torcheck torgrade=$1/torgrade torleak=$1/torleak torrank=$1/torrank torwhy=$1/torwhy
+torview=$1/torview samples=$2
 work=$(mktemp -d)
 trap 'rm -rf "$work"' EXIT
 failed=0
@@ -178,6 +179,9 @@ refuse "a check of a changed result" 1 "$torcheck" "$work/changed.txt" "$dump"
 refuse "a grading" 1 "$torgrade" "$work/rel" "$dump"
 refuse "a grading and a cone" 1 "$torgrade" --cone 20 "$work/rel" "$dump"
 refuse "a bad line of relationships" 1 "$torgrade" "$work/bad" "$dump"
+refuse "leaks" 1 "$torleak" "$samples/three-paths.result.txt" "$dump"
+refuse "leaks behind a result with givens" 1 "$torleak" "$work/under-givens.txt" "$samples/ring.mrt"
+refuse "leaks behind a changed result" 1 "$torleak" "$work/changed.txt" "$dump"
 refuse "ranks" 1 "$torrank" "$work/circle"
 refuse "cones" 1 "$torrank" --cones "$work/circle"
 refuse "cycles" 1 "$torrank" --cycles "$work/circle"

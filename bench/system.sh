@@ -5,7 +5,8 @@
 #   bench/system.sh BIN SAMPLES
 # BIN is the folder of the programs.
 set -uo pipefail
-tor=$1/tor torcheck=$1/torcheck torgrade=$1/torgrade torrank=$1/torrank torwhy=$1/torwhy torview=$1/torview samples=$2
+tor=$1/tor torcheck=$1/torcheck torgrade=$1/torgrade torleak=$1/torleak torrank=$1/torrank torwhy=$1/torwhy
+torview=$1/torview samples=$2
 work=$(mktemp -d)
 trap 'rm -rf "$work"' EXIT
 failed=0
@@ -231,6 +232,20 @@ same "a folder for a result to take up" "$work/out" ""
 "$tor" --resume "$result" "$samples" > "$work/out" 2> "$work/note"
 expect "a folder for a dump on top of a result" $? 4 "read-fault|1"
 same "a folder for a dump on top of a result" "$work/out" ""
+
+"$torleak" "$result" "$one" > /dev/full 2> "$work/note"
+expect "leaks on a full device" $? 5 "write-fault"
+
+"$torleak" "$samples" "$one" > "$work/out" 2> "$work/note"
+expect "leaks behind a folder" $? 4 "read-fault|0"
+
+"$torleak" "$result" "$samples" > "$work/out" 2> "$work/note"
+expect "leaks of a folder" $? 4 "read-fault|1"
+same "leaks of a folder" "$work/out" ""
+
+"$torleak" "$result" /dev/stdin < "$one" > "$work/out" 2> "$work/note"
+expect "leaks of standard input" $? 0 ""
+same "leaks of standard input" "$work/out" $'free|1|10 20\nleaks|0|1|0|0|0'
 
 "$tor" --resume /dev/stdin "$one" < "$result" > "$work/out" 2> "$work/note"
 expect "a result to take up on standard input" $? 0 '{"asides":0,"edges":7,"forced":3,"kept":3,"lost":1,"paths":4,"peers":1}'

@@ -16,10 +16,10 @@ import subprocess
 import sys
 
 BUDGETS = {
-    'README.md': 1660, 'docs/PROMISES.md': 5200, 'docs/FORMATS.md': 6240, 'docs/DECISIONS.md': 4500, 'docs/ARCHITECTURE.md': 3400,
-    'docs/PROVING.md': 2800, 'bench/README.md': 1930, 'docs/CONTRIBUTING.md': 900, 'samples/README.md': 500,
+    'README.md': 1700, 'docs/PROMISES.md': 5290, 'docs/FORMATS.md': 6450, 'docs/DECISIONS.md': 4500, 'docs/ARCHITECTURE.md': 3520,
+    'docs/PROVING.md': 2800, 'bench/README.md': 1940, 'docs/CONTRIBUTING.md': 900, 'samples/README.md': 500,
 }
-ALL_WORDS = 26300
+ALL_WORDS = 27270
 SENTENCE, AVERAGE, CELL, SECTION = 30, 18, 30, 700
 FREE = ['CHANGELOG.md']
 

@@ -12,6 +12,7 @@ use tor_run::infer;
 use tor_words::words_of;
 use torcheck_run::check;
 use torgrade_run::grade;
+use torleak_run::hunt;
 use torrank_run::rank;
 
 #[derive(Clone, Copy)]
@@ -19,6 +20,7 @@ enum Program {
     Tor,
     Torcheck,
     Torgrade,
+    Torleak,
     Torrank,
     Torwhy,
     Torview,
@@ -34,6 +36,7 @@ fn program_of(path: &str) -> Option<Program> {
         "tor" => Some(Program::Tor),
         "torcheck" => Some(Program::Torcheck),
         "torgrade" => Some(Program::Torgrade),
+        "torleak" => Some(Program::Torleak),
         "torrank" => Some(Program::Torrank),
         "torwhy" => Some(Program::Torwhy),
         "torview" => Some(Program::Torview),
@@ -47,7 +50,7 @@ fn main(rt: HostRuntime) -> ExitCode {
         Err(error) => return ExitCode::from(code_of_failure(&error)),
     };
     let Some(program) = named.and_then(|name| program_of(name.as_str())) else {
-        let _ = rt.stderr().write_all(b"this program goes by the name that it is called by: tor, torcheck, torgrade, torrank, torwhy or torview\n");
+        let _ = rt.stderr().write_all(b"this program goes by the name that it is called by: tor, torcheck, torgrade, torleak, torrank, torwhy or torview\n");
         return ExitCode::from(Status::Usage.code());
     };
     let args = match env::args(&rt) {
@@ -66,6 +69,7 @@ fn main(rt: HostRuntime) -> ExitCode {
         Program::Tor => infer(alloc, keys, &words, &mut shelf, &mut out, &mut err),
         Program::Torcheck => check(alloc, keys, &words, &mut shelf, &mut out, &mut err),
         Program::Torgrade => grade(alloc, keys, &words, &mut shelf, &mut out, &mut err),
+        Program::Torleak => hunt(alloc, keys, &words, &mut shelf, &mut out, &mut err),
         Program::Torrank => rank(alloc, keys, &words, &mut shelf, &mut out, &mut err),
         Program::Torwhy => why(alloc, keys, &words, &mut shelf, &mut out, &mut err),
         Program::Torview => view(alloc, keys, &words, &mut shelf, &mut out, &mut err),

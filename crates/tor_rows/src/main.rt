@@ -1,4 +1,4 @@
-// Runs `infer`, `check`, `grade`, `rank`, `why` and `view` over files and streams in memory, as the rows on standard input say, and prints
+// Runs `infer`, `check`, `grade`, `hunt`, `rank`, `why` and `view` over files and streams in memory, as the rows on standard input say, and prints
 // of each row its name and `ok`, or what differs.
 //
 // A row is a block of lines between empty lines, and begins with `row NAME`. The first word of a line says what it is; a line that begins
@@ -37,6 +37,7 @@
 //   tor --list d            infer with these words
 //   torcheck r d            check with these words
 //   torgrade r d            grade with these words
+//   torleak r d             hunt leaks with these words
 //   torrank --cones r       rank with these words
 //   torwhy r 10 20          tell with these words
 //   torview r 10            draw with these words
@@ -45,7 +46,8 @@
 //   out-part TEXT           the same without LF
 //   out-like NAME           what the file of this name holds is written to out
 //   err LINE                a line that is written to err
-//   evidence-aside          the why and open lines, and the walks of lost paths, are left out of both texts before they are compared
+//   evidence-aside          the why and open lines, and the walks of lost paths and leaks, are left out of both texts before they are
+//                           compared
 //   calls 3                 so many calls on files are made
 //
 // The same run again, with one thing changed; out stays empty but for writes. These lines stand behind those above.

@@ -240,7 +240,7 @@ impl Row {
         }
         match kind {
             "row" => self.begin(alloc, text),
-            "tor" | "torcheck" | "torgrade" | "torrank" | "torwhy" | "torview" => {
+            "tor" | "torcheck" | "torgrade" | "torleak" | "torrank" | "torwhy" | "torview" => {
                 self.begin_run(alloc, line)
             }
             "common" => self.put_common(alloc, text),

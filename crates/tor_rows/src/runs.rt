@@ -1,4 +1,4 @@
-//! Runs of `infer`, `check`, `grade`, `rank`, `why` and `view` in memory.
+//! Runs of `infer`, `check`, `grade`, `hunt`, `rank`, `why` and `view` in memory.
 use crate::conditions::Conditions;
 use crate::files::Files;
 use crate::hollow::Hollow;
@@ -11,6 +11,7 @@ use tor_run::infer;
 use tor_words::Name;
 use torcheck_run::check;
 use torgrade_run::grade;
+use torleak_run::hunt;
 use torrank_run::rank;
 
 /// What is run, and with which words.
@@ -93,6 +94,17 @@ fn grade_over<H: Shelf>(
     grade(alloc, keys, words, shelf, out, err)
 }
 
+fn hunt_over<H: Shelf>(
+    alloc: Global,
+    keys: Keys,
+    words: &List<Name>,
+    shelf: &mut H,
+    out: &mut MemSink,
+    err: &mut MemSink,
+) -> Status {
+    hunt(alloc, keys, words, shelf, out, err)
+}
+
 fn rank_over<H: Shelf>(
     alloc: Global,
     keys: Keys,
@@ -140,6 +152,7 @@ fn status_of<H: Shelf>(
     match asked.program {
         "torcheck" => check_over(alloc, keys, &words, shelf, out, err),
         "torgrade" => grade_over(alloc, keys, &words, shelf, out, err),
+        "torleak" => hunt_over(alloc, keys, &words, shelf, out, err),
         "torrank" => rank_over(alloc, keys, &words, shelf, out, err),
         "torwhy" => why_over(alloc, keys, &words, shelf, out, err),
         "torview" => view_over(alloc, keys, &words, shelf, out, err),

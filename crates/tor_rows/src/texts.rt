@@ -60,9 +60,9 @@ fn is_evidence(line: &[u8]) -> bool {
     line.starts_with(b"why|") || line.starts_with(b"open|")
 }
 
-// A line, and of that of a lost path the part before its third bar.
+// A line, and of that of a lost path or a leak the part before its third bar.
 fn without_walk(line: &[u8]) -> &[u8] {
-    if !line.starts_with(b"lost|") {
+    if !line.starts_with(b"lost|") && !line.starts_with(b"leak|") {
         return line;
     }
     let mut bars = 0u8;
@@ -77,7 +77,7 @@ fn without_walk(line: &[u8]) -> &[u8] {
     line
 }
 
-/// A text without the why and open lines, and without the walks of lost paths.
+/// A text without the why and open lines, and without the walks of lost paths and leaks.
 pub fn without_evidence(alloc: Global, text: &[u8]) -> Octets {
     let mut lines = Octets::new(alloc);
     for line in text.split(|octet| *octet == b'\n') {

@@ -1,0 +1,26 @@
+// Finds the leaks among the paths of dumps, behind a result: `torleak RESULT DUMP ..`.
+#![tactic(auto)]
+
+use run_base::{Status, code_of_failure};
+use std::env;
+use std::process::ExitCode;
+use tor_arena::Keys;
+use tor_io::{FileShelf, StdSink};
+use tor_words::words_of;
+use torleak_run::hunt;
+
+fn main(rt: HostRuntime) -> ExitCode {
+    let args = match env::args(&rt) {
+        Ok(args) => args,
+        Err(error) => return ExitCode::from(code_of_failure(&error)),
+    };
+    let Ok(words) = words_of(rt.alloc(), args) else {
+        return ExitCode::from(Status::NoMemory.code());
+    };
+    let mut out = StdSink::new(rt.stdout());
+    let mut err = StdSink::new(rt.stderr());
+    let alloc = rt.alloc();
+    let keys = Keys::new(&rt);
+    let mut shelf = FileShelf::new(rt);
+    ExitCode::from(hunt(alloc, keys, &words, &mut shelf, &mut out, &mut err).code())
+}

@@ -1,0 +1,3 @@
+pub mod Comings
+mod Lasts
+mod Stops
