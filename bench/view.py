@@ -20,6 +20,7 @@ STYLE = (
     '.q{fill:#433a12}.c{fill:#452a3b}.f,.o,.d,.k{fill:#111;stroke:#eee}.d{stroke:#888}.r{stroke:#999}}')
 LOOKS = {'forced': ('f', 'none'), 'open': ('o', '4 3'), None: ('d', '1 3')}
 KINDS = (('provider', 'p'), ('peer', 'q'), ('customer', 'c'))
+LINKS = [None, None, 'https://as.example/{}', 'http://a/?as={}&of={}&', 'https://{{}}{}{a}&amp;{', 'http://']
 
 
 def random_result(draws, ases, wanted):
@@ -78,8 +79,8 @@ def counted(n, what):
 
 
 class Picture:
-    def __init__(self, edges, asked, most, depth):
-        self.most, self.lines, self.further = most, [], depth - 1
+    def __init__(self, edges, asked, most, depth, link):
+        self.most, self.lines, self.further, self.link = most, [], depth - 1, link
         groups = groups_of(edges, asked)
         floors, near = [groups[0]], {asked} | {n[0] for group in groups for n in group}
         for _ in range(self.further):
@@ -102,6 +103,12 @@ class Picture:
     def line(self, points, look):
         self.lines.append('<polyline points="' + ''.join(f' {x},{y}' for x, y in points) + f'" class="{look}"/>')
 
+    def start(self, number):
+        """The first line of a box, and the last one."""
+        if self.link is None or number is None:
+            return '<g>', '</g>'
+        return f'<a href="{self.link.replace("{}", str(number)).replace("&", "&amp;")}">', '</a>'
+
     def band(self, y, height, look, kind, neighbours, part):
         self.lines.append(f'<rect x="8" y="{y}" width="{self.width - 16}" height="{height}" class="{look}"/>')
         self.text(16, y + 20, 'b', kind + 's')
@@ -117,11 +124,12 @@ class Picture:
         else:
             title = f'AS{number}, provider, up to {paths}' if is_high else f'AS{number}, {kind}, {mark}, {paths}'
             texts = [(14, 'm', f'AS{number}'), (26, 'm s', paths)]
-        self.lines += ['<g>', f'<title>{title}</title>',
+        first, last = self.start(number)
+        self.lines += [first, f'<title>{title}</title>',
                        f'<rect x="{x}" y="{y}" width="88" height="32" class="{look}" stroke-dasharray="{dashes}"/>']
         for down, letters, words in texts:
             self.text(x + 44, y + down, letters, words)
-        self.lines.append('</g>')
+        self.lines.append(last)
 
     def x(self, count, place):
         return 144 + 52 * (self.columns - count) + 104 * place
@@ -162,10 +170,11 @@ class Picture:
 
     def middle(self, asked, y):
         axis = 136 + 52 * self.columns
-        self.lines += ['<g>', f'<title>AS{asked}</title>',
+        first, last = self.start(asked)
+        self.lines += [first, f'<title>AS{asked}</title>',
                        f'<rect x="{axis - 60}" y="{y}" width="120" height="32" class="k" stroke-dasharray="none"/>']
         self.text(axis, y + 20, 'm b', f'AS{asked}')
-        self.lines.append('</g>')
+        self.lines.append(last)
 
     def group(self, place, entries, centre, top):
         for i, entry in enumerate(entries):
@@ -200,10 +209,11 @@ def main(torview, seed, count):
             with open(name, 'w') as file:
                 file.write(text)
             for asked in draws.sample(numbers, 3):
-                most, depth = draws.choice([1, 2, 3, 5, 10, 13, 60, 2000]), draws.randint(1, 8)
-                ended = subprocess.run([torview, f'--most={most}', f'--depth={depth}', name, str(asked)], capture_output=True, text=True)
+                most, depth, link = draws.choice([1, 2, 3, 5, 10, 13, 60, 2000]), draws.randint(1, 8), draws.choice(LINKS)
+                words = [f'--most={most}', f'--depth={depth}'] + ([] if link is None else [f'--link={link}'])
+                ended = subprocess.run([torview, *words, name, str(asked)], capture_output=True, text=True)
                 there = any(asked in edge[:2] for edge in edges)
-                wanted = '\n'.join(Picture(edges, asked, most, depth).lines) + '\n' if there else ''
+                wanted = '\n'.join(Picture(edges, asked, most, depth, link).lines) + '\n' if there else ''
                 note = '' if there else f'absent|{asked}\n'
                 runs += 1
                 drawn += there

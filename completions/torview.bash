@@ -4,10 +4,10 @@ _torview() {
     if [ "$before" = = ]; then before=${COMP_WORDS[COMP_CWORD - 2]}; fi
     COMPREPLY=()
     case $before in
-        --most | --depth) compopt +o default ;;
+        --most | --depth | --link) compopt +o default ;;
         *)
             case $word in
-                -*) mapfile -t COMPREPLY < <(compgen -W '--most --depth' -- "$word") ;;
+                -*) mapfile -t COMPREPLY < <(compgen -W '--most --depth --link' -- "$word") ;;
             esac ;;
     esac
 }

@@ -1,11 +1,10 @@
 -- Boxes in cells, and the lines that lead to them.
 use Rattle.std.proofs.Common.{◌≡◌, ℕ, ◌+◌, ◌-◌, ◌*◌, ◌<◌, ◌≤◌, ◌⊎◌, inl, inr, refl, sym, ap, arith}
 use Rattle.drawing.specs.declared.page.Rect.{Rect}
-use Rattle.drawing.specs.declared.page.PageLine.{PageLine}
 use Rattle.drawing.specs.declared.page.Plan.{Plan}
 use Rattle.drawing.specs.declared.page.Cell.{Cell}
 use Rattle.drawing.specs.Page.{axis, box_at, centre_box, centre_y, line_up, line_down, line_points, page_width}
-use Rattle.drawing.specs.Tidy.{Apart, KeepsOff, Misses, LeadsBetween, Within, LineWithin}
+use Rattle.drawing.specs.Tidy.{Apart, KeepsOff, Misses, LeadsBetween, LineWithin}
 use Rattle.drawing.proofs.Cells.{Differ}
 
 -- the box of a cell is as large as all, and right of the trunk

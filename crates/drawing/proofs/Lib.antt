@@ -1,12 +1,16 @@
+pub mod Addresses
 pub mod Cells
 pub mod Choosing
 pub mod Commas
 pub mod Drawn
 pub mod Geometry
+pub mod Leads
 pub mod Marks
+pub mod Nodes
 pub mod Numbered
 pub mod Numbering
 pub mod Perching
+pub mod Plain
 pub mod Rising
 pub mod Seats
 pub mod SomePicture

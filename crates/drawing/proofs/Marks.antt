@@ -1,27 +1,21 @@
 -- Whatever is solid and dark in a picture belongs to a forced edge, or is the frame of the centre.
-use Rattle.std.proofs.Common.{◌≡◌, ℕ, ◌+◌, ◌<◌, ◌⊎◌, inl, inr, true, false, List, [], ◌∷◌, ◌++◌, length, get_or, refl, sym, ◌∙◌, subst, arith, All}
-use Rattle.std.specs.Prelude.{flat_map, IsTrue, codes, Some}
-use Rattle.std.specs.List.{Any}
-use Rattle.std.proofs.lemmas.List.{get_or_default}
-use Rattle.std.proofs.lemmas.List.Concat.{flat_map-cons}
-use Rattle.std.proofs.lemmas.List.Elements.{All-append, All-cons, All-nil, All-tail}
+use Rattle.std.proofs.Common.{◌≡◌, ℕ, ◌+◌, inl, inr, true, false, List, [], ◌∷◌, get_or, refl, sym, ◌∙◌, All}
+use Rattle.std.specs.Prelude.{IsTrue, codes, Option, Some}
+use Rattle.std.proofs.lemmas.List.Elements.{All-cons, All-nil}
 use Rattle.relationships.specs.declared.mark.Mark.{Mark}
 use Rattle.relationships.specs.declared.mark.Mark.TheVariants as mark
 use Rattle.drawing.specs.declared.group.Group.{Group}
 use Rattle.drawing.specs.declared.page.Rect.{Rect}
-use Rattle.drawing.specs.declared.drawing.Band.{Band}
 use Rattle.drawing.specs.declared.drawing.BoxEntry.{BoxEntry}
 use Rattle.drawing.specs.declared.drawing.BoxEntry.TheVariants as entry
-use Rattle.drawing.specs.declared.drawing.Item.{Item}
-use Rattle.drawing.specs.declared.drawing.Post.{Post}
-use Rattle.drawing.specs.declared.drawing.RisingLine.{RisingLine}
 use Rattle.drawing.specs.declared.drawing.Drawing.{Drawing}
 use Rattle.drawing.specs.declared.printing.Words.TheVariants as words
 use Rattle.drawing.specs.Page.{line_points, slant_points}
 use Rattle.drawing.specs.Xml.{Element, Node, leaf}
 use Rattle.drawing.specs.Svg.{IsOfForced, ShowsMarks, all_words, as_words, band_class, band_nodes, box_node, caption_words, centre_frame, centre_node, class_of, dashes, elements_in}
 use Rattle.drawing.specs.Svg.{entry_class, entry_texts, entry_title, frame, head_nodes, heading_words, is_forced_entry, is_solid, item_frame, item_nodes, left_words, link_element, link_nodes}
-use Rattle.drawing.specs.Svg.{mark_class, mark_dashes, nodes_of, part_words, paths_words, polyline, post_dashes, post_nodes, post_title, rect_with, style_words, text_at, title, word_of, words_text}
+use Rattle.drawing.specs.Svg.{mark_class, mark_dashes, part_words, paths_words, polyline, box_lead, entry_number, item_box, post_box, post_frame, post_nodes, post_title, rect_with, style_words, text_at, title, word_of, words_text}
+use Rattle.drawing.proofs.Nodes.{of_all, one_there}
 
 no_truth : {X : Type 0} → false ≡ true → X
 no_truth e = absurd (not_both e)
@@ -42,8 +36,8 @@ pale d e f h = no_truth (sym f ∙ h)
 leaf_shown : (d : Drawing) (e : Element) → Sh d e → Shown d (leaf e)
 leaf_shown d e h = All-cons (Sh d) e [] h (All-nil (Sh d))
 
-box_shown : (d : Drawing) (words : List ℕ) (framed : Element) (texts : List Element) → Sh d framed → All (Sh d) texts → Shown d (box_node words framed texts)
-box_shown d words framed texts f t = All-cons (Sh d) (title words) (framed ∷ texts) (pale d (title words) refl) (All-cons (Sh d) framed texts f t)
+box_shown : (d : Drawing) (to : Option (List ℕ)) (words : List ℕ) (framed : Element) (texts : List Element) → Sh d framed → All (Sh d) texts → Shown d (box_node to words framed texts)
+box_shown d to words framed texts f t = All-cons (Sh d) (title words) (framed ∷ texts) (pale d (title words) refl) (All-cons (Sh d) framed texts f t)
 
 -- ---- one frame and one line
 
@@ -70,23 +64,15 @@ texts_shown d b (entry.More n) = let left = text_at (b.x + 44) (b.y + 20) (codes
 
 -- ---- all of them
 
-all_flat : {X : Type 0} (P : Node → Type 0) (f : X → List Node) (xs : List X) → All (λ x. All P (f x)) xs → All P (flat_map f xs)
-all_flat P f [] all = All-nil P
-all_flat P f (x ∷ xs) all =
-    subst (All P) (sym (flat_map-cons f x xs)) (All-append P (f x) (flat_map f xs) (all 0 x (omega arith)) (all_flat P f xs (All-tail (λ y. All P (f y)) x xs all)))
-
-one_there : {X : Type 0} (P : X → Type 0) (xs : List X) (k : ℕ) (d : X) → k < length xs → P (get_or xs k d) → Any P xs
-one_there P xs k d lt h = (k, get_or xs k d, lt, get_or_default xs k (get_or xs k d) d lt, h)
-
-item_shown : (d : Drawing) → All (λ i. All (Shown d) (item_nodes i)) d.items
-item_shown d k x lt =
+item_shown : (link : Option (List ℕ)) (d : Drawing) → All (λ i. All (Shown d) (item_nodes link i)) d.items
+item_shown link d k x lt =
     let i = get_or d.items k x in
     let rail = polyline (line_points i.line) (class_of (codes "r") ∷ []) in
     let words = entry_title i.group i.entry in
     let texts = entry_texts i.at i.entry in
-    All-cons (Shown d) (leaf rail) (box_node words (item_frame i) texts ∷ []) (leaf_shown d rail (pale d rail refl))
-    (All-cons (Shown d) (box_node words (item_frame i) texts) []
-    (box_shown d words (item_frame i) texts
+    All-cons (Shown d) (leaf rail) (item_box link i ∷ []) (leaf_shown d rail (pale d rail refl))
+    (All-cons (Shown d) (item_box link i) []
+    (box_shown d (box_lead link (entry_number i.entry)) words (item_frame i) texts
     (λ h. inl (one_there (λ j. is_forced_entry j.entry × (item_frame i ≡ item_frame j)) d.items k x lt (forced_entry i.at i.entry h, refl))) (texts_shown d i.at i.entry))
     (All-nil (Shown d)))
 
@@ -97,12 +83,12 @@ link_shown d k x lt =
     (λ h. inr (inl (one_there (λ j. (j.mark ≡ mark.Forced) × (link_element l ≡ link_element j)) d.links k x lt (forced_line (slant_points l.line) l.mark h, refl)))))
     (All-nil (Shown d))
 
-post_shown : (d : Drawing) → All (λ q. All (Shown d) (post_nodes q)) d.posts
-post_shown d k x lt =
+post_shown : (link : Option (List ℕ)) (d : Drawing) → All (λ q. All (Shown d) (post_nodes link q)) d.posts
+post_shown link d k x lt =
     let q = get_or d.posts k x in
-    let framed = frame q.at (codes "d") (post_dashes q.entry) in
-    All-cons (Shown d) (box_node (post_title q.entry) framed (entry_texts q.at q.entry)) []
-    (box_shown d (post_title q.entry) framed (entry_texts q.at q.entry) (pale d framed refl) (texts_shown d q.at q.entry)) (All-nil (Shown d))
+    All-cons (Shown d) (post_box link q) []
+    (box_shown d (box_lead link (entry_number q.entry)) (post_title q.entry) (post_frame q) (entry_texts q.at q.entry) (pale d (post_frame q) refl)
+    (texts_shown d q.at q.entry)) (All-nil (Shown d))
 
 pale_band : (b : Rect) (g : Group) → is_solid (rect_with b (class_of (band_class g) ∷ [])) ≡ false
 pale_band b Group.Providers = refl
@@ -134,14 +120,17 @@ head_shown d =
     (All-cons (Shown d) (leaf solid) (leaf dashed ∷ []) (leaf_shown d solid (pale d solid refl))
     (All-cons (Shown d) (leaf dashed) [] (leaf_shown d dashed (pale d dashed refl)) (All-nil (Shown d))))))
 
-centre_shown : (d : Drawing) → Shown d (centre_node d)
-centre_shown d =
+centre_shown : (link : Option (List ℕ)) (d : Drawing) → Shown d (centre_node link d)
+centre_shown link d =
     let number = text_at (d.centre.x + 60) (d.centre.y + 20) (codes "m b") (as_words d.asked) in
-    box_shown d (as_words d.asked) (centre_frame d) (number ∷ []) (λ h. inr (inr refl)) (leaf_shown d number (pale d number refl))
+    box_shown d (box_lead link (Some d.asked)) (as_words d.asked) (centre_frame d) (number ∷ []) (λ h. inr (inr refl)) (leaf_shown d number (pale d number refl))
 
-pub picture_shows_marks : (d : Drawing) → ShowsMarks d
-picture_shows_marks d =
-    All-append (Shown d) (head_nodes d) _ (head_shown d) (All-append (Shown d) (flat_map band_nodes d.bands) _ (all_flat (Shown d) band_nodes d.bands (band_shown d))
-    (All-cons (Shown d) (centre_node d) _ (centre_shown d) (All-append (Shown d) (flat_map item_nodes d.items) _ (all_flat (Shown d) item_nodes d.items (item_shown d))
-    (All-append (Shown d) (flat_map link_nodes d.links) (flat_map post_nodes d.posts) (all_flat (Shown d) link_nodes d.links (link_shown d))
-    (all_flat (Shown d) post_nodes d.posts (post_shown d))))))
+pub picture_shows_marks : (link : Option (List ℕ)) (d : Drawing) → ShowsMarks link d
+picture_shows_marks link d = of_all (Shown d) link d (record {
+  head = head_shown d;
+  bands = band_shown d;
+  centre = centre_shown link d;
+  items = item_shown link d;
+  links = link_shown d;
+  posts = post_shown link d;
+})

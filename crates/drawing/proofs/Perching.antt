@@ -1,7 +1,7 @@
 -- The cells of further generations, and that no two are the same.
-use Rattle.std.proofs.Common.{◌≡◌, ℕ, ◌+◌, ◌-◌, ◌<◌, ◌≤◌, ◌⊎◌, inl, inr, true, false, Bool, List, [], ◌∷◌, length, get_or, take, map, refl, sym, ap, ◌∙◌, subst, arith}
+use Rattle.std.proofs.Common.{◌≡◌, ℕ, ◌+◌, ◌-◌, ◌<◌, ◌≤◌, ◌⊎◌, inl, inr, true, false, Bool, List, [], ◌∷◌, length, take, map, refl, sym, ◌∙◌, subst, arith}
 use Rattle.std.proofs.Common.{All, length-append, lt-ltb, le-ltb}
-use Rattle.std.specs.Prelude.{Option, Some, None, filter_map, max, nat_lt, ◌==◌, cond, if◌then◌else◌}
+use Rattle.std.specs.Prelude.{Option, Some, None, filter_map, nat_lt, ◌==◌, cond, if◌then◌else◌}
 use Rattle.std.specs.List.{AllPairs, find, cons_option}
 use Rattle.std.proofs.lemmas.Bool.{cases_order}
 use Rattle.std.proofs.lemmas.Option.{none-some, same_Some}

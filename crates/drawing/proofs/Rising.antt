@@ -1,11 +1,11 @@
 -- Lines from a box to one of the next generation.
-use Rattle.std.proofs.Common.{◌≡◌, ℕ, ◌+◌, ◌-◌, ◌*◌, ◌/◌, ◌<◌, ◌≤◌, ◌⊎◌, inl, inr, refl, sym, ap, ◌∙◌, arith, subst}
+use Rattle.std.proofs.Common.{◌≡◌, ℕ, ◌+◌, ◌-◌, ◌*◌, ◌/◌, ◌<◌, ◌≤◌, inl, inr, refl, arith}
 use Rattle.std.proofs.Math.Nat.{div-le_of_le-mul}
 use Rattle.drawing.specs.declared.page.Rect.{Rect}
 use Rattle.drawing.specs.declared.page.Slant.{Slant}
 use Rattle.drawing.specs.declared.page.Plan.{Plan}
 use Rattle.drawing.specs.declared.page.Cell.{Cell}
-use Rattle.drawing.specs.Page.{band_y, box_at, centre_box, centre_y, high_box, page_height, page_width, place_on, slant_of, slant_points}
+use Rattle.drawing.specs.Page.{band_y, centre_box, centre_y, high_box, page_height, page_width, place_on, slant_of, slant_points}
 use Rattle.drawing.specs.Tidy.{Misses, KeepsOff, KeepsOffOthers, LeadsBetween, LineWithin}
 use Rattle.drawing.proofs.Geometry.{IsBox, Clear, box_is}
 use Rattle.drawing.proofs.Seats.{IsHigh, IsRoomy, Placed, high, box_of, same_or_clear, some_rows}

@@ -1,16 +1,15 @@
 -- Where the boxes of a page stand, group by group.
-use Rattle.std.proofs.Common.{◌≡◌, ℕ, ◌+◌, ◌-◌, ◌*◌, ◌/◌, ◌<◌, ◌≤◌, ◌⊎◌, inl, inr, min, max, refl, sym, ap, ◌∙◌, subst, arith, lt-ltb, le-ltb}
-use Rattle.std.specs.Prelude.{nat_lt, if◌then◌else◌}
+use Rattle.std.proofs.Common.{◌≡◌, ℕ, ◌+◌, ◌-◌, ◌*◌, ◌<◌, ◌≤◌, ◌⊎◌, inl, inr, min, refl, sym, ap, ◌∙◌, subst, arith, lt-ltb, le-ltb}
 use Rattle.std.proofs.lemmas.Bool.{cases_order}
 use Rattle.drawing.specs.declared.page.Rect.{Rect}
 use Rattle.drawing.specs.declared.page.Plan.{Plan}
 use Rattle.drawing.specs.declared.page.Cell.{Cell}
 use Rattle.drawing.specs.declared.page.Spot.{Spot}
-use Rattle.drawing.specs.Page.{axis, band_y, box_at, cell_above, cell_of, centre_box, centre_y, customers_y, flat_cell, high_box, is_one_row, line_up, line_down, line_points}
+use Rattle.drawing.specs.Page.{band_y, box_at, cell_above, cell_of, centre_box, centre_y, customers_y, flat_cell, high_box, line_up, line_down, line_points}
 use Rattle.drawing.specs.Page.{page_height, page_width, peers_y, rows_above, rows_of, spot_above, spot_below, spot_beside, spot_of}
 use Rattle.drawing.specs.Tidy.{Apart, KeepsOffOthers, LeadsBetween, Within, LineWithin}
 use Rattle.drawing.proofs.Cells.{Differ, cells_differ, count_few, flats_differ, seat_of}
-use Rattle.drawing.proofs.Geometry.{IsBox, box_is, Clear, cells_clear, clear_apart, other_way, up_off, down_off, up_joins, down_joins, off_centre, up_within, down_within}
+use Rattle.drawing.proofs.Geometry.{IsBox, box_is, Clear, cells_clear, other_way, up_off, down_off, up_joins, down_joins, off_centre, up_within, down_within}
 
 pub cases_lt : (a b : ℕ) → (a < b) ⊎ (b ≤ a)
 cases_lt a b = elim (cases_order a b) [ inl e ↦ inr (omega (arith, e)) | inr o ↦ elim o [ inl l ↦ inl l | inr g ↦ inr (omega (arith, g)) ] ]

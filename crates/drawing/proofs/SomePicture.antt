@@ -20,6 +20,7 @@ use Rattle.drawing.specs.Shifted.{HasNumbers}
 use Rattle.drawing.proofs.Choosing.{AreChosen, none_chosen, one_chosen, one_left, all_chosen, choice_sorted}
 use Rattle.drawing.proofs.Drawn.{drawn_of, drawn_tidy}
 use Rattle.drawing.proofs.WellFormed.{picture_well_formed}
+use Rattle.drawing.proofs.Leads.{picture_shows_links}
 use Rattle.drawing.proofs.Marks.{picture_shows_marks}
 
 -- ---- sorted neighbours
@@ -161,4 +162,4 @@ picture_law edges a most depth =
     let (gs, are, deep) = generations edges most ps (near_numbers a ps qs cs) (depth - 1) in
     let d = drawing_by edges a most ps qs cs gs in
     let drawn : IsDrawn edges a most depth ps qs cs d = record { further = gs; are = are; deep = deep; is = refl } in
-    (d, drawn_of edges a most depth ps qs cs providers peers customers d drawn, drawn_tidy edges a most depth ps qs cs d drawn, picture_well_formed d, picture_shows_marks d)
+    (d, drawn_of edges a most depth ps qs cs providers peers customers d drawn, drawn_tidy edges a most depth ps qs cs d drawn, λ link can. (picture_well_formed link can d, picture_shows_marks link d, picture_shows_links link d))

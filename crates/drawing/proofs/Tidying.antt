@@ -1,6 +1,5 @@
 -- A picture is tidy.
-use Rattle.std.proofs.Common.{◌≡◌, ℕ, zero, suc, ◌+◌, ◌-◌, ◌*◌, ◌<◌, ◌≤◌, List, [], ◌∷◌, ◌++◌, length, get_or, map, inl, inr, min, max, refl, sym, ap, subst, arith, All, length-append, lt-ltb, le-ltb}
-use Rattle.std.specs.Prelude.{nat_lt, if◌then◌else◌}
+use Rattle.std.proofs.Common.{◌≡◌, ℕ, zero, suc, ◌+◌, ◌-◌, ◌*◌, ◌<◌, ◌≤◌, List, [], ◌∷◌, ◌++◌, length, get_or, map, inl, inr, refl, sym, ap, subst, arith, All, length-append, lt-ltb}
 use Rattle.std.specs.List.{AllPairs, Any, enumerate_from}
 use Rattle.std.proofs.lemmas.List.Elements.{All-append, All-cons, All-nil, All-map}
 use Rattle.std.proofs.lemmas.List.Kept.{AllPairs-cons}
@@ -17,15 +16,14 @@ use Rattle.drawing.specs.declared.drawing.Band.{Band}
 use Rattle.drawing.specs.declared.drawing.BoxEntry.{BoxEntry}
 use Rattle.drawing.specs.declared.drawing.Item.{Item}
 use Rattle.drawing.specs.Entries.{box_entries}
-use Rattle.drawing.specs.Page.{axis, band_y, box_at, centre_box, centre_y, customers_y, high_box, page_height, page_width, peers_y, rows_above, rows_of, slant_of, slant_points, spot_of, line_points}
-use Rattle.drawing.specs.Page.{IsCell}
+use Rattle.drawing.specs.Page.{band_y, centre_box, customers_y, high_box, page_height, page_width, peers_y, rows_above, rows_of, slant_of, slant_points, spot_of, line_points}
 use Rattle.drawing.specs.Picture.{HasCells, bands_of, high_band, item_of, items_of, near_band, post_of, link_of, columns_of, plan_of, drawing_with, drawing_by}
 use Rattle.drawing.specs.Generations.{perches, rising_ties, sizes, widest}
 use Rattle.drawing.specs.Tidy.{IsTidy, Within, LiesIn, LineWithin, Apart, FarApart, LeadsBetween, KeepsOffOthers, boxes_of}
 use Rattle.drawing.proofs.Cells.{seat_of}
-use Rattle.drawing.proofs.Geometry.{IsBox, Clear, clear_apart, off_centre, other_way}
+use Rattle.drawing.proofs.Geometry.{IsBox, Clear, clear_apart, off_centre}
 use Rattle.drawing.proofs.Rising.{Rises, rises}
-use Rattle.drawing.proofs.Seats.{IsRoomy, IsHigh, IsFine, Placed, high, Seat, first, second, third, all_boxes, box_of, clear_of_high, far_off, fine, high_pair, placed, seated, some_rows, two_clear}
+use Rattle.drawing.proofs.Seats.{IsRoomy, IsHigh, IsFine, Placed, high, Seat, first, second, third, all_boxes, box_of, clear_of_high, far_off, fine, placed, seated, some_rows, two_clear}
 use Rattle.drawing.proofs.Seats.{on_page, row_above}
 use Rattle.std.proofs.lemmas.Bool.{cases_order}
 use Rattle.drawing.proofs.Numbered.{numbered_at, numbered_each, numbered_pairs, length-numbered, pairs_append, pairs_map}

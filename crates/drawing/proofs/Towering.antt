@@ -1,6 +1,6 @@
 -- A tower of generations grows by one.
 use Rattle.std.proofs.Common.{◌≡◌, ℕ, ◌+◌, ◌<◌, List, [], ◌∷◌, ◌++◌, length, get_or, take, append_assoc, refl, sym, ap, ◌∙◌, subst, arith}
-use Rattle.std.specs.Prelude.{Option, Some, None, filter_map, ◌==◌, Contains, Bool, ◌≤◌, ◌*◌, max}
+use Rattle.std.specs.Prelude.{Option, Some, None, filter_map, ◌==◌, Contains, Bool, ◌≤◌, max}
 use Rattle.tor_numbers.specs.Slots.{IsInserted}
 use Rattle.drawing.proofs.Numbering.{has_more}
 use Rattle.std.specs.List.{find, cons_option}
@@ -15,7 +15,7 @@ use Rattle.drawing.specs.declared.generation.Ends.{Ends}
 use Rattle.drawing.specs.declared.tower.Tie.{Tie}
 use Rattle.drawing.specs.declared.tower.Tower.{Tower}
 use Rattle.drawing.specs.Generations.{upward, standing_of, provider_with, provider_above, providers_above, tie_with, tie_of, IsGeneration}
-use Rattle.drawing.specs.Generations.{all_numbers, box_count, topmost, standings_at, perches_at, perches, rising_ties, sizes, widest}
+use Rattle.drawing.specs.Generations.{all_numbers, box_count, topmost, standings_at, perches_at, perches, rising_ties}
 use Rattle.drawing.specs.Tower.{IsTower, IsStacked}
 use Rattle.drawing.specs.Shifted.{HasNumbers}
 use Rattle.drawing.proofs.Choosing.{numbers_of}

@@ -1,5 +1,5 @@
 -- Worked examples.
-use Rattle.std.proofs.Common.{◌≡◌, ℕ, List, [], ◌∷◌, codes, refl}
+use Rattle.std.proofs.Common.{◌≡◌, ℕ, true, false, List, [], ◌∷◌, codes, refl}
 use Rattle.std.specs.Fmt.{digits}
 use Rattle.relationships.specs.declared.label.Label.{Label}
 use Rattle.relationships.specs.declared.label.Label.TheVariants as label
@@ -12,7 +12,8 @@ use Rattle.drawing.specs.Neighbours.{neighbours}
 use Rattle.drawing.specs.declared.page.Cell.{Cell}
 use Rattle.drawing.specs.declared.drawing.BoxEntry.TheVariants as entry
 use Rattle.drawing.specs.Page.{axis, spot_of, centre_box, page_height, page_width, high_box, slant_of}
-use Rattle.drawing.specs.Svg.{comma_digits, entry_title, thousands}
+use Rattle.drawing.specs.Svg.{address, comma_digits, entry_title, thousands}
+use Rattle.drawing.specs.Xml.{is_value}
 
 abbrev edge : ℕ → ℕ → Label → Mark → ℕ → EdgeLine
 edge low high l m support = record { low = low; high = high; label = l; mark = m; support = support }
@@ -92,3 +93,15 @@ digits_of = (refl, refl, refl)
 neighbour : entry_title Group.Peers (entry.One (record { number = 31946; mark = mark.Open; support = 2385 })) ≡ codes "AS31946, peer, open, 2,385 paths"
 unfolding thousands digits
 neighbour = refl
+
+-- links
+of_an_as : (address (codes "https://a/AS{}?b={}&c") 20 ≡ codes "https://a/AS20?b=20&amp;c") × (address (codes "http://a") 20 ≡ codes "http://a")
+unfolding address digits
+of_an_as = (refl, refl)
+
+braces : (address (codes "{{}}{}{a}&amp;}{") 7 ≡ codes "{7}7{a}&amp;amp;}{") × (address (codes "{") 7 ≡ codes "{") × (address (codes "{}{}") 4294967295 ≡ codes "42949672954294967295")
+unfolding address digits
+braces = (refl, refl, refl)
+
+values : (is_value (codes "a&amp;b&amp;") ≡ true) × (is_value (codes "a&b") ≡ false) × (is_value (codes "&amp") ≡ false) × (is_value (codes "a\"b") ≡ false)
+values = (refl, refl, refl, refl)

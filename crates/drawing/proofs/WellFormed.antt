@@ -1,10 +1,9 @@
 -- The text of a picture is well formed.
-use Rattle.std.proofs.Common.{◌≡◌, ℕ, zero, suc, ◌+◌, ◌-◌, ◌*◌, ◌/◌, ◌%◌, ◌<◌, ◌≤◌, Bool, true, false, List, [], ◌∷◌, ◌++◌, length, get_or, take, append_assoc, refl, sym, ap, ◌∙◌, subst, arith}
-use Rattle.std.specs.Prelude.{◌==◌, if◌then◌else◌, nat_lt, flat_map, codes}
-use Rattle.std.specs.Fmt.{decimal, digits, digits_onto, digit_glyph}
+use Rattle.std.proofs.Common.{◌≡◌, ℕ, zero, suc, ◌+◌, ◌/◌, ◌%◌, ◌<◌, ◌≤◌, Bool, true, false, List, [], ◌∷◌, ◌++◌, length, get_or, take, append_assoc, refl, sym, ap, ◌∙◌, subst, arith}
+use Rattle.std.specs.Prelude.{◌==◌, if◌then◌else◌, nat_lt, flat_map, codes, Option, Some, None, IfSome, IsTrue}
+use Rattle.std.specs.Fmt.{decimal}
 use Rattle.std.specs.List.{AllByRecursion}
-use Rattle.std.proofs.Math.Nat.{mod-lt, div-le_of_le-mul, div-add-mod}
-use Rattle.std.proofs.lemmas.List.Folds.{list_all-append}
+use Rattle.std.proofs.Math.Nat.{mod-lt}
 use Rattle.std.proofs.lemmas.Grind.{flat_map-append}
 use Rattle.std.proofs.lemmas.List.{take_more, append-nil}
 use Rattle.std.proofs.lemmas.List.Concat.{flat_map-cons}
@@ -24,47 +23,13 @@ use Rattle.drawing.specs.declared.drawing.Post.{Post}
 use Rattle.drawing.specs.declared.drawing.RisingLine.{RisingLine}
 use Rattle.drawing.specs.declared.drawing.Drawing.{Drawing}
 use Rattle.drawing.specs.Page.{line_points, slant_points}
-use Rattle.drawing.specs.Xml.{Element, Node, SvgAttribute, is_plain, AreAttributes, ArePlain, IsElement, IsNode, IsDocument, element_text, elements_text, node_text, nodes_text, tag_text}
+use Rattle.drawing.specs.Xml.{Element, Node, is_plain, is_value, ArePlain, IsElement, IsNode, IsDocument, node_text, nodes_text, tag_text}
 use Rattle.drawing.specs.Svg.{three_digits, comma_digits, thousands, title, rect_with, frame, point, points, polyline, text_at, mark_class, mark_dashes, entry_class, dashes, post_dashes}
 use Rattle.drawing.specs.Svg.{as_words, ending, paths_words, group_words, mark_words, more_words, entry_title, post_title, heading_words, all_words, left_words, part_words, tally_words}
 use Rattle.drawing.specs.Svg.{caption_words, entry_texts, box_node, item_nodes, link_element, link_nodes, post_nodes, centre_node, centre_texts, band_class, band_nodes, head_nodes, nodes_of}
-use Rattle.drawing.specs.Svg.{extent_words, page_attributes, style_words, svg_text}
-
--- ---- plain texts
-
-plain_append : (xs ys : List ℕ) → ArePlain xs → ArePlain ys → ArePlain (xs ++ ys)
-plain_append xs ys a b = rw (list_all-append is_plain xs ys, a, b) refl
-
-plain_digit : (d : ℕ) → d < 10 → is_plain (digit_glyph false d) ≡ true
-plain_digit zero lt = refl
-plain_digit (suc zero) lt = refl
-plain_digit (suc (suc zero)) lt = refl
-plain_digit (suc (suc (suc zero))) lt = refl
-plain_digit (suc (suc (suc (suc zero)))) lt = refl
-plain_digit (suc (suc (suc (suc (suc zero))))) lt = refl
-plain_digit (suc (suc (suc (suc (suc (suc zero)))))) lt = refl
-plain_digit (suc (suc (suc (suc (suc (suc (suc zero))))))) lt = refl
-plain_digit (suc (suc (suc (suc (suc (suc (suc (suc zero)))))))) lt = refl
-plain_digit (suc (suc (suc (suc (suc (suc (suc (suc (suc zero))))))))) lt = refl
-plain_digit (suc (suc (suc (suc (suc (suc (suc (suc (suc (suc d)))))))))) lt = absurd (omega arith)
-
-plain_either : (b : Bool) (xs ys : List ℕ) → ArePlain xs → ArePlain ys → ArePlain (if b then xs else ys)
-plain_either true xs ys x y = x
-plain_either false xs ys x y = y
-
-plain_more : (c : ℕ) (acc : List ℕ) → is_plain c ≡ true → ArePlain acc → ArePlain (c ∷ acc)
-plain_more c acc e a = rw (e, a) refl
-
-plain_onto : (k n : ℕ) (acc : List ℕ) → ArePlain acc → ArePlain (digits_onto k 10 false n acc)
-plain_onto zero n acc a = a
-plain_onto (suc k) n acc a =
-    let last : ArePlain (digit_glyph false (n % 10) ∷ acc) = plain_more (digit_glyph false (n % 10)) acc (plain_digit (n % 10) (mod-lt n (omega arith))) a in
-    plain_either (n / 10 == 0) (digit_glyph false (n % 10) ∷ acc) (digits_onto k 10 false (n / 10) (digit_glyph false (n % 10) ∷ acc)) last
-    (plain_onto k (n / 10) (digit_glyph false (n % 10) ∷ acc) last)
-
-plain_decimal : (n : ℕ) → ArePlain (decimal n)
-unfolding digits
-plain_decimal n = plain_onto 64 n [] refl
+use Rattle.drawing.specs.Svg.{CanLead, entry_number, extent_words, box_lead, page_attributes, post_frame, style_words, svg_text}
+use Rattle.drawing.proofs.Addresses.{lead_valued, valued}
+use Rattle.drawing.proofs.Plain.{plain_append, plain_decimal, plain_either, plain_more}
 
 -- ---- numbers
 
@@ -214,13 +179,16 @@ plain_band Group.Customers = refl
 
 -- ---- elements
 
+valued_decimal : (n : ℕ) → IsTrue (is_value (decimal n))
+valued_decimal n = valued (decimal n) (plain_decimal n)
+
 title_is : (words : List ℕ) → ArePlain words → IsElement (title words)
 title_is words plain = record { named = refl; attributes = tt; once = refl; inside = plain }
 
 frame_is : (b : Rect) (class dashed : List ℕ) → ArePlain class → ArePlain dashed → IsElement (frame b class dashed)
 frame_is b class dashed plain plain' = record {
   named = refl;
-  attributes = ((refl, plain_decimal b.x), ((refl, plain_decimal b.y), ((refl, plain_decimal b.width), ((refl, plain_decimal b.height), ((refl, plain), ((refl, plain'), tt))))));
+  attributes = ((refl, valued_decimal b.x), ((refl, valued_decimal b.y), ((refl, valued_decimal b.width), ((refl, valued_decimal b.height), ((refl, valued class plain), ((refl, valued dashed plain'), tt))))));
   once = refl;
   inside = tt;
 }
@@ -228,7 +196,7 @@ frame_is b class dashed plain plain' = record {
 plane_is : (b : Rect) (g : Group) → IsElement (rect_with b (record { name = codes "class"; value = band_class g } ∷ []))
 plane_is b g = record {
   named = refl;
-  attributes = ((refl, plain_decimal b.x), ((refl, plain_decimal b.y), ((refl, plain_decimal b.width), ((refl, plain_decimal b.height), ((refl, plain_band g), tt)))));
+  attributes = ((refl, valued_decimal b.x), ((refl, valued_decimal b.y), ((refl, valued_decimal b.width), ((refl, valued_decimal b.height), ((refl, valued (band_class g) (plain_band g)), tt)))));
   once = refl;
   inside = tt;
 }
@@ -236,18 +204,21 @@ plane_is b g = record {
 text_is : (x y : ℕ) (class words : List ℕ) → ArePlain class → ArePlain words → IsElement (text_at x y class words)
 text_is x y class words plain plain' = record {
   named = refl;
-  attributes = ((refl, plain_decimal x), ((refl, plain_decimal y), ((refl, plain), tt)));
+  attributes = ((refl, valued_decimal x), ((refl, valued_decimal y), ((refl, valued class plain), tt)));
   once = refl;
   inside = plain';
 }
 
 rail_is : (l : List (ℕ × ℕ)) → IsElement (polyline l (record { name = codes "class"; value = codes "r" } ∷ []))
-rail_is l = record { named = refl; attributes = ((refl, plain_points l), ((refl, refl), tt)); once = refl; inside = tt }
+rail_is l = record { named = refl; attributes = ((refl, valued (points l) (plain_points l)), ((refl, refl), tt)); once = refl; inside = tt }
 
 link_is : (l : RisingLine) → IsElement (link_element l)
 link_is l = record {
   named = refl;
-  attributes = ((refl, plain_points (slant_points l.line)), ((refl, plain_mark_class l.mark), ((refl, plain_mark_dashes l.mark), tt)));
+  attributes = (
+    (refl, valued (points (slant_points l.line)) (plain_points (slant_points l.line))),
+    ((refl, valued (mark_class l.mark) (plain_mark_class l.mark)), ((refl, valued (mark_dashes l.mark) (plain_mark_dashes l.mark)), tt)),
+  );
   once = refl;
   inside = tt;
 }
@@ -260,8 +231,10 @@ texts_are b (entry.One n) = (
 texts_are b (entry.More n) =
     (text_is (b.x + 44) (b.y + 20) (codes "m") (left_words n) refl (plain_append (thousands n) (codes " more") (plain_thousands n) refl), tt)
 
-box_is : (words : List ℕ) (framed : Element) (texts : List Element) → ArePlain words → IsElement framed → AllByRecursion IsElement texts → IsNode (box_node words framed texts)
-box_is words framed texts plain is are = record { named = refl; well_formed = tt; once = refl; each = (title_is words plain, (is, are)) }
+box_is : (to : Option (List ℕ)) (words : List ℕ) (framed : Element) (texts : List Element) → IfSome to (λ t. IsTrue (is_value t)) → ArePlain words → IsElement framed
+    → AllByRecursion IsElement texts → IsNode (box_node to words framed texts)
+box_is None words framed texts leads plain is are = record { named = refl; well_formed = tt; once = refl; each = (title_is words plain, (is, are)) }
+box_is (Some t) words framed texts leads plain is are = record { named = refl; well_formed = ((refl, leads), tt); once = refl; each = (title_is words plain, (is, are)) }
 
 all_append : (xs ys : List Node) → AllByRecursion IsNode xs → AllByRecursion IsNode ys → AllByRecursion IsNode (xs ++ ys)
 all_append [] ys a b = b
@@ -271,19 +244,20 @@ all_flat : {X : Type 0} (f : X → List Node) → ((x : X) → AllByRecursion Is
 all_flat f each [] = tt
 all_flat f each (x ∷ xs) = subst (AllByRecursion IsNode) (sym (flat_map-cons f x xs)) (all_append (f x) (flat_map f xs) (each x) (all_flat f each xs))
 
-item_is : (i : Item) → AllByRecursion IsNode (item_nodes i)
-item_is i = (
+item_is : (link : Option (List ℕ)) → CanLead link → (i : Item) → AllByRecursion IsNode (item_nodes link i)
+item_is link can i = (
   rail_is (line_points i.line),
   (
-    box_is (entry_title i.group i.entry) (frame i.at (entry_class i.entry) (dashes i.entry)) (entry_texts i.at i.entry) (plain_title i.group i.entry)
+    box_is (box_lead link (entry_number i.entry)) (entry_title i.group i.entry) (frame i.at (entry_class i.entry) (dashes i.entry)) (entry_texts i.at i.entry)
+        (lead_valued link (entry_number i.entry) can) (plain_title i.group i.entry)
         (frame_is i.at (entry_class i.entry) (dashes i.entry) (plain_class i.entry) (plain_dashes i.entry)) (texts_are i.at i.entry),
     tt,
   ),
 )
 
-post_is : (q : Post) → AllByRecursion IsNode (post_nodes q)
-post_is q = (
-  box_is (post_title q.entry) (frame q.at (codes "d") (post_dashes q.entry)) (entry_texts q.at q.entry) (plain_post_title q.entry)
+post_is : (link : Option (List ℕ)) → CanLead link → (q : Post) → AllByRecursion IsNode (post_nodes link q)
+post_is link can q = (
+  box_is (box_lead link (entry_number q.entry)) (post_title q.entry) (post_frame q) (entry_texts q.at q.entry) (lead_valued link (entry_number q.entry) can) (plain_post_title q.entry)
       (frame_is q.at (codes "d") (post_dashes q.entry) refl (plain_post_dashes q.entry)) (texts_are q.at q.entry),
   tt,
 )
@@ -312,9 +286,9 @@ head_is d = (
   ),
 )
 
-centre_is : (d : Drawing) → IsNode (centre_node d)
-centre_is d =
-    box_is (as_words d.asked) (frame d.centre (codes "k") (codes "none")) (centre_texts d) (plain_as d.asked) (frame_is d.centre (codes "k") (codes "none") refl refl)
+centre_is : (link : Option (List ℕ)) → CanLead link → (d : Drawing) → IsNode (centre_node link d)
+centre_is link can d =
+    box_is (box_lead link (Some d.asked)) (as_words d.asked) (frame d.centre (codes "k") (codes "none")) (centre_texts d) (lead_valued link (Some d.asked) can) (plain_as d.asked) (frame_is d.centre (codes "k") (codes "none") refl refl)
     (text_is (d.centre.x + 60) (d.centre.y + 20) (codes "m b") (as_words d.asked) refl (plain_as d.asked), tt)
 
 plain_extent : (d : Drawing) → ArePlain (extent_words d)
@@ -322,17 +296,18 @@ plain_extent d =
     plain_append (codes "0 0 ") (decimal d.width ++ 32 ∷ decimal d.height) refl
     (plain_append (decimal d.width) (32 ∷ decimal d.height) (plain_decimal d.width) (plain_more 32 (decimal d.height) refl (plain_decimal d.height)))
 
-pub picture_well_formed : (d : Drawing) → IsDocument (codes "svg") (svg_text d)
-picture_well_formed d = record {
+pub picture_well_formed : (link : Option (List ℕ)) → CanLead link → (d : Drawing) → IsDocument (codes "svg") (svg_text link d)
+picture_well_formed link can d = record {
   attributes = page_attributes d;
-  nodes = nodes_of d;
+  nodes = nodes_of link d;
   named = refl;
-  well_formed = ((refl, refl), ((refl, plain_decimal d.width), ((refl, plain_decimal d.height), ((refl, plain_extent d), tt))));
+  well_formed = ((refl, refl), ((refl, valued_decimal d.width), ((refl, valued_decimal d.height), ((refl, valued (extent_words d) (plain_extent d)), tt))));
   once = refl;
   each = all_append (head_nodes d) _ (head_is d) (all_append (flat_map band_nodes d.bands) _ (all_flat band_nodes band_is d.bands) (
-    centre_is d,
-    all_append (flat_map item_nodes d.items) _ (all_flat item_nodes item_is d.items)
-        (all_append (flat_map link_nodes d.links) (flat_map post_nodes d.posts) (all_flat link_nodes (λ l. (link_is l, tt)) d.links) (all_flat post_nodes post_is d.posts)),
+    centre_is link can d,
+    all_append (flat_map (item_nodes link) d.items) _ (all_flat (item_nodes link) (item_is link can) d.items)
+        (all_append (flat_map link_nodes d.links) (flat_map (post_nodes link) d.posts) (all_flat link_nodes (λ l. (link_is l, tt)) d.links)
+        (all_flat (post_nodes link) (post_is link can) d.posts)),
   ));
   is = refl;
 }
@@ -347,23 +322,25 @@ nodes_text-append (x ∷ xs) ys = ap (λ t. node_text x ++ t) (nodes_text-append
 then_text : (xs ys : List Node) (end : List ℕ) → nodes_text (xs ++ ys) ++ end ≡ nodes_text xs ++ (nodes_text ys ++ end)
 then_text xs ys end = ap (λ t. t ++ end) (nodes_text-append xs ys) ∙ append_assoc (nodes_text xs) (nodes_text ys) end
 
-abbrev high_nodes : Drawing → List Node
-high_nodes d = flat_map link_nodes d.links ++ flat_map post_nodes d.posts
+abbrev high_nodes : Option (List ℕ) → Drawing → List Node
+high_nodes link d = flat_map link_nodes d.links ++ flat_map (post_nodes link) d.posts
 
-pub picture_parts : (d : Drawing) → svg_text d ≡ tag_text (codes "svg") (page_attributes d) ++ (nodes_text (head_nodes d) ++ (nodes_text (flat_map band_nodes d.bands)
-    ++ (node_text (centre_node d) ++ (nodes_text (flat_map item_nodes d.items) ++ (nodes_text (flat_map link_nodes d.links)
-    ++ (nodes_text (flat_map post_nodes d.posts) ++ codes "</svg>\n"))))))
-picture_parts d =
+pub picture_parts : (link : Option (List ℕ)) (d : Drawing) → svg_text link d ≡ tag_text (codes "svg") (page_attributes d) ++ (nodes_text (head_nodes d) ++ (nodes_text (flat_map band_nodes d.bands)
+    ++ (node_text (centre_node link d) ++ (nodes_text (flat_map (item_nodes link) d.items) ++ (nodes_text (flat_map link_nodes d.links)
+    ++ (nodes_text (flat_map (post_nodes link) d.posts) ++ codes "</svg>\n"))))))
+picture_parts link d =
     let end = codes "</svg>\n" in
     let bands = flat_map band_nodes d.bands in
-    let items = flat_map item_nodes d.items in
+    let centre = centre_node link d in
+    let items = flat_map (item_nodes link) d.items in
     let links = flat_map link_nodes d.links in
-    let posts = flat_map post_nodes d.posts in
+    let posts = flat_map (post_nodes link) d.posts in
+    let high = high_nodes link d in
     ap (λ t. tag_text (codes "svg") (page_attributes d) ++ t)
-    (then_text (head_nodes d) (bands ++ (centre_node d ∷ (items ++ high_nodes d))) end
-    ∙ ap (λ t. nodes_text (head_nodes d) ++ t) (then_text bands (centre_node d ∷ (items ++ high_nodes d)) end
-    ∙ ap (λ t. nodes_text bands ++ t) (append_assoc (node_text (centre_node d)) (nodes_text (items ++ high_nodes d)) end
-    ∙ ap (λ t. node_text (centre_node d) ++ t) (then_text items (high_nodes d) end
+    (then_text (head_nodes d) (bands ++ (centre ∷ (items ++ high))) end
+    ∙ ap (λ t. nodes_text (head_nodes d) ++ t) (then_text bands (centre ∷ (items ++ high)) end
+    ∙ ap (λ t. nodes_text bands ++ t) (append_assoc (node_text centre) (nodes_text (items ++ high)) end
+    ∙ ap (λ t. node_text centre ++ t) (then_text items high end
     ∙ ap (λ t. nodes_text items ++ t) (then_text links posts end)))))
 
 -- one more

@@ -1,8 +1,9 @@
--- The text of a picture: SVG 1.1 (W3C), of the elements title, style, g, rect, polyline and text alone. Nothing in it runs or is fetched.
-use Rattle.std.specs.Prelude.{◌≡◌, ◌⊎◌, ◌<◌, ◌^◌, ℕ, suc, zero, ◌+◌, ◌*◌, ◌/◌, ◌%◌, ◌==◌, Bool, ◌&&◌, ◌||◌, nat_lt, if◌then◌else◌, codes, Some, None, IsTrue, All}
+-- The text of a picture: SVG 1.1 (W3C), of the elements title, style, g, rect, polyline and text alone, and with a link also of a, whose href
+-- is of SVG 2. Nothing in it runs or is fetched.
+use Rattle.std.specs.Prelude.{◌≡◌, ◌⊎◌, ◌<◌, ◌^◌, ℕ, suc, zero, ◌+◌, ◌/◌, ◌%◌, ◌==◌, Bool, ◌&&◌, ◌||◌, nat_lt, if◌then◌else◌, codes, Option, Some, None, IfSome, IsTrue, All}
 use Rattle.std.specs.Prelude.{List, [], ◌∷◌, ◌++◌, flat_map}
 use Rattle.std.specs.Fmt.{decimal}
-use Rattle.std.specs.List.{Any, list_any}
+use Rattle.std.specs.List.{Any, list_all, list_any}
 use Rattle.relationships.specs.declared.mark.Mark.{Mark}
 use Rattle.relationships.specs.declared.mark.Mark.TheVariants as mark
 use Rattle.drawing.specs.declared.group.Group.{Group}
@@ -21,7 +22,7 @@ use Rattle.drawing.specs.declared.drawing.Drawing.{Drawing}
 use Rattle.drawing.specs.declared.printing.Words.{Words}
 use Rattle.drawing.specs.declared.printing.Words.TheVariants as words
 use Rattle.drawing.specs.Page.{line_points, slant_points}
-use Rattle.drawing.specs.Xml.{SvgAttribute, Element, Node, leaf, branch, is_same_name, tag_text, document}
+use Rattle.drawing.specs.Xml.{SvgAttribute, Element, Node, leaf, branch, is_plain, is_same_name, document}
 
 -- ---- numbers
 
@@ -179,6 +180,40 @@ words_text (words.Part p) = part_words p
 words_text words.Solid = codes "solid frame: the label of the edge is forced"
 words_text words.Dashed = codes "dashed frame: it is open, as between peers it always is"
 
+-- ---- links
+
+-- a character that an address may have: in XML & is written as &amp;
+abbrev pub is_address_character : ℕ → Bool
+is_address_character c = is_plain c || (c == 38)
+
+abbrev pub xml_character : ℕ → List ℕ
+xml_character c = if c == 38 then codes "&amp;" else c ∷ []
+
+-- where a link leads for an AS, whose number stands for each {}
+unfoldable pub address : List ℕ → ℕ → List ℕ
+address [] a = []
+address (c ∷ []) a = xml_character c
+address (c ∷ d ∷ cs) a = if (c == 123) && (d == 125) then decimal a ++ address cs a else xml_character c ++ address (d ∷ cs) a
+
+-- where the box of an AS leads, if there is a link and an AS
+abbrev pub box_lead : Option (List ℕ) → Option ℕ → Option (List ℕ)
+box_lead None _ = None
+box_lead (Some link) None = None
+box_lead (Some link) (Some a) = Some (address link a)
+
+-- of a box of those that are left out there is none
+abbrev pub entry_number : BoxEntry → Option ℕ
+entry_number (entry.One n) = Some n.number
+entry_number (entry.More n) = None
+
+abbrev pub box_name : Option (List ℕ) → List ℕ
+box_name None = codes "g"
+box_name (Some to) = codes "a"
+
+abbrev pub box_attributes : Option (List ℕ) → List SvgAttribute
+box_attributes None = []
+box_attributes (Some to) = word_of (codes "href") to ∷ []
+
 -- ---- boxes
 
 -- an AS with its paths, or how many are left out
@@ -187,22 +222,29 @@ entry_texts b (entry.One n) =
     text_at (b.x + 44) (b.y + 14) (codes "m") (as_words n.number) ∷ text_at (b.x + 44) (b.y + 26) (codes "m s") (paths_words n.support) ∷ []
 entry_texts b (entry.More n) = text_at (b.x + 44) (b.y + 20) (codes "m") (left_words n) ∷ []
 
--- what belongs to one box, of which a browser shows the title
-abbrev pub box_node : List ℕ → Element → List Element → Node
-box_node words framed texts = branch (codes "g") [] (title words ∷ framed ∷ texts)
+-- what belongs to one box, of which a browser shows the title, and which may lead somewhere
+abbrev pub box_node : Option (List ℕ) → List ℕ → Element → List Element → Node
+box_node to words framed texts = branch (box_name to) (box_attributes to) (title words ∷ framed ∷ texts)
 
 abbrev pub item_frame : Item → Element
 item_frame i = frame i.at (entry_class i.entry) (dashes i.entry)
 
 -- a neighbour: its line is as thin and pale as all others, and its frame has its mark
-abbrev pub item_nodes : Item → List Node
-item_nodes i =
-    leaf (polyline (line_points i.line) (class_of (codes "r") ∷ []))
-    ∷ box_node (entry_title i.group i.entry) (item_frame i) (entry_texts i.at i.entry) ∷ []
+abbrev pub item_box : Option (List ℕ) → Item → Node
+item_box link i = box_node (box_lead link (entry_number i.entry)) (entry_title i.group i.entry) (item_frame i) (entry_texts i.at i.entry)
+
+abbrev pub item_nodes : Option (List ℕ) → Item → List Node
+item_nodes link i = leaf (polyline (line_points i.line) (class_of (codes "r") ∷ [])) ∷ item_box link i ∷ []
 
 -- an AS of a further generation, and a line to one, which has the mark of its edge
-abbrev pub post_nodes : Post → List Node
-post_nodes q = box_node (post_title q.entry) (frame q.at (codes "d") (post_dashes q.entry)) (entry_texts q.at q.entry) ∷ []
+abbrev pub post_frame : Post → Element
+post_frame q = frame q.at (codes "d") (post_dashes q.entry)
+
+abbrev pub post_box : Option (List ℕ) → Post → Node
+post_box link q = box_node (box_lead link (entry_number q.entry)) (post_title q.entry) (post_frame q) (entry_texts q.at q.entry)
+
+abbrev pub post_nodes : Option (List ℕ) → Post → List Node
+post_nodes link q = post_box link q ∷ []
 
 abbrev pub link_element : RisingLine → Element
 link_element l =
@@ -218,9 +260,8 @@ centre_frame d = frame d.centre (codes "k") (codes "none")
 abbrev pub centre_texts : Drawing → List Element
 centre_texts d = text_at (d.centre.x + 60) (d.centre.y + 20) (codes "m b") (as_words d.asked) ∷ []
 
-abbrev pub centre_node : Drawing → Node
-centre_node d =
-    box_node (as_words d.asked) (centre_frame d) (centre_texts d)
+abbrev pub centre_node : Option (List ℕ) → Drawing → Node
+centre_node link d = box_node (box_lead link (Some d.asked)) (as_words d.asked) (centre_frame d) (centre_texts d)
 
 -- ---- bands
 
@@ -257,10 +298,10 @@ head_nodes d =
     ∷ leaf (text_at 16 46 (codes "l") (words_text words.Solid))
     ∷ leaf (text_at 16 60 (codes "l") (words_text words.Dashed)) ∷ []
 
-abbrev pub nodes_of : Drawing → List Node
-nodes_of d =
-    head_nodes d ++ (flat_map band_nodes d.bands ++ (centre_node d ∷ (flat_map item_nodes d.items
-    ++ (flat_map link_nodes d.links ++ flat_map post_nodes d.posts))))
+abbrev pub nodes_of : Option (List ℕ) → Drawing → List Node
+nodes_of link d =
+    head_nodes d ++ (flat_map band_nodes d.bands ++ (centre_node link d ∷ (flat_map (item_nodes link) d.items
+    ++ (flat_map link_nodes d.links ++ flat_map (post_nodes link) d.posts))))
 
 -- what part of the plane the page shows
 abbrev pub extent_words : Drawing → List ℕ
@@ -271,8 +312,12 @@ page_attributes d =
     word_of (codes "xmlns") (codes "http://www.w3.org/2000/svg") ∷ number_attribute (codes "width") d.width
     ∷ number_attribute (codes "height") d.height ∷ word_of (codes "viewBox") (extent_words d) ∷ []
 
-abbrev pub svg_text : Drawing → List ℕ
-svg_text d = document (codes "svg") (page_attributes d) (nodes_of d)
+abbrev pub svg_text : Option (List ℕ) → Drawing → List ℕ
+svg_text link d = document (codes "svg") (page_attributes d) (nodes_of link d)
+
+-- the link is made of characters that an address may have
+abbrev pub CanLead : Option (List ℕ) → Type 0
+CanLead link = IfSome link (λ l. IsTrue (list_all is_address_character l))
 
 -- the page lies where numbers of 32 bits reach
 pub record IsLow (d : Drawing) : Type 0 where
@@ -305,5 +350,38 @@ IsOfForced d e =
     ⊎ (Any (λ l. (l.mark ≡ mark.Forced) × (e ≡ link_element l)) d.links ⊎ (e ≡ centre_frame d))
 
 -- whatever is solid and dark in the picture
-abbrev pub ShowsMarks : Drawing → Type 0
-ShowsMarks d = All (λ n. All (λ e. IsTrue (is_solid e) → IsOfForced d e) (elements_in n)) (nodes_of d)
+abbrev pub ShowsMarks : Option (List ℕ) → Drawing → Type 0
+ShowsMarks link d = All (λ n. All (λ e. IsTrue (is_solid e) → IsOfForced d e) (elements_in n)) (nodes_of link d)
+
+-- ---- what leads somewhere
+
+-- all attributes of these elements, and of a node with its elements
+abbrev pub all_attributes : List Element → List SvgAttribute
+all_attributes [] = []
+all_attributes (e ∷ elements) = e.attributes ++ all_attributes elements
+
+abbrev pub node_attributes : Node → List SvgAttribute
+node_attributes (leaf e) = e.attributes
+node_attributes (branch name attributes elements) = attributes ++ all_attributes elements
+
+abbrev pub leads : SvgAttribute → Bool
+leads a = is_same_name a.name (codes "href")
+
+-- the node is the box of this AS
+abbrev pub IsBoxOf : Option (List ℕ) → Drawing → ℕ → Node → Type 0
+IsBoxOf link d a n =
+    ((d.asked ≡ a) × (n ≡ centre_node link d))
+    ⊎ (Any (λ i. (entry_number i.entry ≡ Some a) × (n ≡ item_box link i)) d.items
+    ⊎ Any (λ q. (entry_number q.entry ≡ Some a) × (n ≡ post_box link q)) d.posts)
+
+-- it is that of an AS, for which the link leads there
+pub record IsBoxLink (link : Option (List ℕ)) (d : Drawing) (n : Node) (to : List ℕ) : Type 0 where
+  pub asked : List ℕ
+  pub is_asked : link ≡ Some asked
+  pub number : ℕ
+  pub box : IsBoxOf link d number n
+  pub is : to ≡ address asked number
+
+-- whatever leads somewhere in the picture
+abbrev pub ShowsLinks : Option (List ℕ) → Drawing → Type 0
+ShowsLinks link d = All (λ n. All (λ a. IsTrue (leads a) → IsBoxLink link d n a.value) (node_attributes n)) (nodes_of link d)

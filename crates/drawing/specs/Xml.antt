@@ -1,8 +1,9 @@
--- The few forms of XML (W3C, Extensible Markup Language 1.0, sections 2.3, 2.4 and 3.1) that the text of a picture has: elements that hold
+-- The few forms of XML (W3C, Extensible Markup Language 1.0, sections 2.3, 2.4, 3.1 and 4.6) that the text of a picture has: elements that hold
 -- nothing, or plain text, or others such.
 use Rattle.std.specs.Prelude.{◌≡◌, ℕ, Bool, true, false, not, ◌&&◌, ◌||◌, ◌==◌, nat_le, List, []}
-use Rattle.std.specs.Prelude.{◌∷◌, ◌++◌, codes, Option, Some, None, IsTrue}
+use Rattle.std.specs.Prelude.{◌∷◌, ◌++◌, codes, Option, Some, None, IsTrue, is_some}
 use Rattle.std.specs.List.{AllByRecursion, list_all}
+use Rattle.text_fields.specs.Reading.{word_at}
 
 -- an attribute has a name and a value
 pub record SvgAttribute : Type 0 where
@@ -32,6 +33,11 @@ is_letter c = (nat_le 65 c && nat_le c 90) || (nat_le 97 c && nat_le c 122)
 abbrev pub ArePlain : List ℕ → Type 0
 ArePlain text = IsTrue (list_all is_plain text)
 
+-- plain characters, and & where it is written as &amp;
+abbrev pub is_value : List ℕ → Bool
+is_value [] = true
+is_value (c ∷ cs) = (is_plain c || ((c == 38) && is_some (word_at (codes "amp;") cs))) && is_value cs
+
 -- a letter, and then letters and hyphens
 abbrev pub is_name : List ℕ → Bool
 is_name [] = false
@@ -42,9 +48,9 @@ is_same_name [] [] = true
 is_same_name (b ∷ bs) (c ∷ cs) = (b == c) && is_same_name bs cs
 is_same_name _ _ = false
 
--- each has a name and a plain value
+-- each has a name and a value
 abbrev pub AreAttributes : List SvgAttribute → Type 0
-AreAttributes attributes = AllByRecursion (λ a. IsTrue (is_name a.name) × ArePlain a.value) attributes
+AreAttributes attributes = AllByRecursion (λ a. IsTrue (is_name a.name) × IsTrue (is_value a.value)) attributes
 
 -- no name stands twice
 abbrev pub are_named_once : List SvgAttribute → Bool

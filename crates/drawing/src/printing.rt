@@ -4,19 +4,21 @@ ghost use Rattle.std.specs.Fmt.{decimal};
 ghost use Rattle.std.specs.Io.KnownBytes.{append_known};
 ghost use Rattle.tor_io.specs.Outflow.{state, Puts};
 ghost use Rattle.drawing.specs.Page.{line_points, slant_points};
-ghost use Rattle.drawing.specs.Svg.{FitsNumbers, IsLow, ShowsMarks, band_class, band_nodes, box_node, caption_words, centre_node};
+ghost use Rattle.drawing.specs.Svg.{CanLead, FitsNumbers, IsLow, ShowsLinks, ShowsMarks, address, band_class, band_nodes, box_attributes};
+ghost use Rattle.drawing.specs.Svg.{box_name, caption_words, centre_node, entry_number, box_lead, xml_character};
 ghost use Rattle.drawing.specs.Svg.{class_of, comma_digits, dashes, ending, entry_class, entry_texts, entry_title, frame, group_words};
 ghost use Rattle.drawing.specs.Svg.{as_words, centre_frame, centre_texts, extent_words, part_words, style_words, head_nodes, item_nodes, link_element, link_nodes, mark_class, mark_dashes, mark_words, more_words};
 ghost use Rattle.drawing.specs.Svg.{page_attributes, paths_words, point, points, polyline, post_dashes, post_nodes, post_title, rect_with};
 ghost use Rattle.drawing.specs.Svg.{svg_text, tally_words, text_at, thousands, three_digits, title, word_of, words_text};
 ghost use Rattle.drawing.specs.Tidy.{IsTidy};
-ghost use Rattle.drawing.specs.Xml.{IsDocument, attribute_text, element_text, elements_text, node_text, nodes_text, tag_text};
+ghost use Rattle.drawing.specs.Xml.{IsDocument, attribute_text, element_text, elements_text, node_text, nodes_text, tag_end, tag_text};
 
 use crate::drawing::{Band, BandPart, BoxEntry, Drawing, Item, Post, RisingLine};
 use crate::group::{Group, NeighbourCounts, Tally};
 use crate::page::{PageLine, Rect, Slant};
 use relationships::Mark;
 use std::alloc::Global;
+use text_fields::after;
 use tor_arena::{List, NoMemory};
 use tor_io::{Buffer, ListSink, Outflow, Sink};
 
@@ -441,6 +443,91 @@ fn band_class(group: Group) -> &'static [u8]
     }
 }
 
+// ---- links
+
+fn put_written<S: Sink>(out: &mut S, flow: &mut Outflow<'_>, octet: u8)
+    ensures { Puts (state (S.held out.old) (S.faults out.old) flow.old) (state (S.held out.new) (S.faults out.new) flow.new)
+        (xml_character octet) }
+{
+    if octet == b'&' {
+        flow.put(out, b"&amp;");
+    } else {
+        flow.put_byte(out, octet);
+    }
+}
+
+// Where a link leads for an AS.
+fn put_address<S: Sink>(out: &mut S, flow: &mut Outflow<'_>, link: &[u8], number: u32)
+    ensures { Puts (state (S.held out.old) (S.faults out.old) flow.old) (state (S.held out.new) (S.faults out.new) flow.new)
+        (address link.now number) }
+{
+    let mut rest = link;
+    'parts: while let Some((octet, others)) = rest.split_first() {
+        match after(b"{}", rest) {
+            Some(behind) => {
+                flow.put_number(out, u64::from(number));
+                rest = behind;
+            }
+            None => {
+                put_written(out, flow, *octet);
+                rest = others;
+            }
+        }
+    }
+}
+
+// The AS that a box stands for, if it is one.
+fn entry_number(entry: &BoxEntry) -> Option<u32>
+    ensures { result ≡ entry_number entry.now }
+{
+    match entry {
+        BoxEntry::One(neighbour) => Some(neighbour.number),
+        BoxEntry::More(_) => None,
+    }
+}
+
+// The first tag of a link.
+fn put_link_start<S: Sink>(out: &mut S, flow: &mut Outflow<'_>, link: &[u8], number: u32)
+    ensures { Puts (state (S.held out.old) (S.faults out.old) flow.old) (state (S.held out.new) (S.faults out.new) flow.new)
+        (tag_text (codes "a") (word_of (codes "href") (address link.now number) ∷ [])) }
+{
+    flow.put(out, b"<a href=\"");
+    put_address(out, flow, link, number);
+    flow.put(out, b"\">\n");
+}
+
+// The first tag of a box.
+fn put_box_start<S: Sink>(
+    out: &mut S,
+    flow: &mut Outflow<'_>,
+    link: &Option<List<u8>>,
+    number: Option<u32>,
+)
+    ensures { Puts (state (S.held out.old) (S.faults out.old) flow.old) (state (S.held out.new) (S.faults out.new) flow.new)
+        (tag_text (box_name (box_lead link.now number)) (box_attributes (box_lead link.now number))) }
+{
+    match link {
+        Some(link) => match number {
+            Some(number) => put_link_start(out, flow, link.as_slice(), number),
+            None => flow.put(out, b"<g>\n"),
+        },
+        None => flow.put(out, b"<g>\n"),
+    }
+}
+
+// The last tag of a box.
+fn box_end(link: &Option<List<u8>>, number: Option<u32>) -> &'static [u8]
+    ensures { result.now ≡ tag_end (box_name (box_lead link.now number)) }
+{
+    match link {
+        Some(_) => match number {
+            Some(_) => b"</a>\n",
+            None => b"</g>\n",
+        },
+        None => b"</g>\n",
+    }
+}
+
 // ---- the whole
 
 // What a box stands for, in it.
@@ -481,32 +568,15 @@ fn put_inside<S: Sink>(
     put_entry_texts(out, flow, at, entry);
 }
 
-// A box.
-fn put_box<S: Sink>(
-    out: &mut S,
-    flow: &mut Outflow<'_>,
-    words: &Words,
-    at: &Rect,
-    class: &[u8],
-    dashed: &[u8],
-    entry: &BoxEntry,
-)
-    requires inside { FitsNumbers at.now }
-    ensures { Puts (state (S.held out.old) (S.faults out.old) flow.old) (state (S.held out.new) (S.faults out.new) flow.new)
-        (node_text (box_node (words_text words.now) (frame at.now class.now dashed.now) (entry_texts at.now entry.now))) }
-{
-    flow.put(out, b"<g>\n");
-    put_inside(out, flow, words, at, class, dashed, entry);
-    flow.put(out, b"</g>\n");
-}
-
-fn put_item<S: Sink>(out: &mut S, flow: &mut Outflow<'_>, item: &Item)
+fn put_item<S: Sink>(out: &mut S, flow: &mut Outflow<'_>, link: &Option<List<u8>>, item: &Item)
     requires inside { FitsNumbers item.now.at }
     ensures { Puts (state (S.held out.old) (S.faults out.old) flow.old) (state (S.held out.new) (S.faults out.new) flow.new)
-        (nodes_text (item_nodes item.now)) }
+        (nodes_text (item_nodes link.now item.now)) }
 {
+    let number = entry_number(&item.entry);
     put_rail(out, flow, &item.line);
-    put_box(
+    put_box_start(out, flow, link, number);
+    put_inside(
         out,
         flow,
         &Words::Entry(item.group, item.entry),
@@ -515,15 +585,16 @@ fn put_item<S: Sink>(out: &mut S, flow: &mut Outflow<'_>, item: &Item)
         dashes(&item.entry),
         &item.entry,
     );
+    flow.put(out, box_end(link, number));
 }
 
-fn put_items<S: Sink>(out: &mut S, flow: &mut Outflow<'_>, items: &[Item])
+fn put_items<S: Sink>(out: &mut S, flow: &mut Outflow<'_>, link: &Option<List<u8>>, items: &[Item])
     requires inside { All (λ i. FitsNumbers i.at) items.now }
     ensures { Puts (state (S.held out.old) (S.faults out.old) flow.old) (state (S.held out.new) (S.faults out.new) flow.new)
-        (nodes_text (flat_map item_nodes items.now)) }
+        (nodes_text (flat_map (item_nodes link.now) items.now)) }
 {
     for item in items {
-        put_item(out, flow, item);
+        put_item(out, flow, link, item);
     }
 }
 
@@ -550,12 +621,14 @@ fn put_links<S: Sink>(out: &mut S, flow: &mut Outflow<'_>, links: &[RisingLine])
     }
 }
 
-fn put_post<S: Sink>(out: &mut S, flow: &mut Outflow<'_>, post: &Post)
+fn put_post<S: Sink>(out: &mut S, flow: &mut Outflow<'_>, link: &Option<List<u8>>, post: &Post)
     requires inside { FitsNumbers post.now.at }
     ensures { Puts (state (S.held out.old) (S.faults out.old) flow.old) (state (S.held out.new) (S.faults out.new) flow.new)
-        (nodes_text (post_nodes post.now)) }
+        (nodes_text (post_nodes link.now post.now)) }
 {
-    put_box(
+    let number = entry_number(&post.entry);
+    put_box_start(out, flow, link, number);
+    put_inside(
         out,
         flow,
         &Words::Post(post.entry),
@@ -564,15 +637,16 @@ fn put_post<S: Sink>(out: &mut S, flow: &mut Outflow<'_>, post: &Post)
         post_dashes(&post.entry),
         &post.entry,
     );
+    flow.put(out, box_end(link, number));
 }
 
-fn put_posts<S: Sink>(out: &mut S, flow: &mut Outflow<'_>, posts: &[Post])
+fn put_posts<S: Sink>(out: &mut S, flow: &mut Outflow<'_>, link: &Option<List<u8>>, posts: &[Post])
     requires inside { All (λ q. FitsNumbers q.at) posts.now }
     ensures { Puts (state (S.held out.old) (S.faults out.old) flow.old) (state (S.held out.new) (S.faults out.new) flow.new)
-        (nodes_text (flat_map post_nodes posts.now)) }
+        (nodes_text (flat_map (post_nodes link.now) posts.now)) }
 {
     for post in posts {
-        put_post(out, flow, post);
+        put_post(out, flow, link, post);
     }
 }
 
@@ -654,14 +728,20 @@ fn put_centre_inside<S: Sink>(out: &mut S, flow: &mut Outflow<'_>, drawing: &Dra
 }
 
 // The box in the centre.
-fn put_centre<S: Sink>(out: &mut S, flow: &mut Outflow<'_>, drawing: &Drawing)
+fn put_centre<S: Sink>(
+    out: &mut S,
+    flow: &mut Outflow<'_>,
+    link: &Option<List<u8>>,
+    drawing: &Drawing,
+)
     requires inside { FitsNumbers drawing.now.centre }
     ensures { Puts (state (S.held out.old) (S.faults out.old) flow.old) (state (S.held out.new) (S.faults out.new) flow.new)
-        (node_text (centre_node drawing.now)) }
+        (node_text (centre_node link.now drawing.now)) }
 {
-    flow.put(out, b"<g>\n");
+    let number = Some(drawing.asked);
+    put_box_start(out, flow, link, number);
     put_centre_inside(out, flow, drawing);
-    flow.put(out, b"</g>\n");
+    flow.put(out, box_end(link, number));
 }
 
 // What part of the plane the page shows.
@@ -687,19 +767,24 @@ fn put_start<S: Sink>(out: &mut S, flow: &mut Outflow<'_>, drawing: &Drawing)
     flow.put(out, b">\n");
 }
 
-fn put_picture<S: Sink>(out: &mut S, flow: &mut Outflow<'_>, drawing: &Drawing)
+fn put_picture<S: Sink>(
+    out: &mut S,
+    flow: &mut Outflow<'_>,
+    drawing: &Drawing,
+    link: &Option<List<u8>>,
+)
     requires tidy { IsTidy drawing.now }
     requires low { IsLow drawing.now }
     ensures { Puts (state (S.held out.old) (S.faults out.old) flow.old) (state (S.held out.new) (S.faults out.new) flow.new)
-        (svg_text drawing.now) }
+        (svg_text link.now drawing.now) }
 {
     put_start(out, flow, drawing);
     put_head(out, flow, drawing);
     put_bands(out, flow, drawing.bands.as_slice());
-    put_centre(out, flow, drawing);
-    put_items(out, flow, drawing.items.as_slice());
+    put_centre(out, flow, link, drawing);
+    put_items(out, flow, link, drawing.items.as_slice());
     put_links(out, flow, drawing.links.as_slice());
-    put_posts(out, flow, drawing.posts.as_slice());
+    put_posts(out, flow, link, drawing.posts.as_slice());
     flow.put(out, b"</svg>\n");
 }
 
@@ -708,14 +793,15 @@ fn write_picture<S: Sink>(
     out: &mut S,
     buffer: &mut Buffer,
     drawing: &Drawing,
+    link: &Option<List<u8>>,
 ) -> Result<(), NoMemory>
     requires empty { buffer.old ≡ [] }
     requires tidy { IsTidy drawing.now }
     requires low { IsLow drawing.now }
-    ensures { OnOk result (S.held out.new ≡ append_known (S.held out.old) (svg_text drawing.now)) }
+    ensures { OnOk result (S.held out.new ≡ append_known (S.held out.old) (svg_text link.now drawing.now)) }
 {
     let mut flow = Outflow::through(buffer);
-    put_picture(out, &mut flow, drawing);
+    put_picture(out, &mut flow, drawing, link);
     match flow.finish(out) {
         Ok(()) => Ok(()),
         Err(_) => Err(NoMemory),
@@ -723,28 +809,40 @@ fn write_picture<S: Sink>(
 }
 
 // The same through a buffer of its own.
-fn write_whole<S: Sink>(alloc: Global, out: &mut S, drawing: &Drawing) -> Result<(), NoMemory>
+fn write_whole<S: Sink>(
+    alloc: Global,
+    out: &mut S,
+    drawing: &Drawing,
+    link: &Option<List<u8>>,
+) -> Result<(), NoMemory>
     requires tidy { IsTidy drawing.now }
     requires low { IsLow drawing.now }
-    ensures { OnOk result (S.held out.new ≡ append_known (S.held out.old) (svg_text drawing.now)) }
+    ensures { OnOk result (S.held out.new ≡ append_known (S.held out.old) (svg_text link.now drawing.now)) }
 {
     let mut buffer = Buffer::new(alloc)?;
-    let written = write_picture(out, &mut buffer, drawing);
+    let written = write_picture(out, &mut buffer, drawing, link);
     drop(buffer);
     written
 }
 
-/// The text of the picture, as SVG. The picture has to be tidy and no larger than numbers of 32 bits reach, as one that is drawn is. The
+/// The text of the picture, as SVG. The picture has to be tidy and no larger than numbers of 32 bits reach, as one that is drawn is. With
+/// a link the box of each AS leads there, with its number in place of each `{}`; it is printable ASCII without quote, `<` and `>`. The
 /// only error is that memory ran out.
-pub fn svg_of(alloc: Global, drawing: &Drawing) -> Result<List<u8>, NoMemory>
+pub fn svg_of(
+    alloc: Global,
+    drawing: &Drawing,
+    link: &Option<List<u8>>,
+) -> Result<List<u8>, NoMemory>
     requires tidy { IsTidy drawing.now }
     requires low { IsLow drawing.now }
-    ensures text { IfOk result (λ text. text ≡ svg_text drawing.now) }
+    requires leading { CanLead link.now }
+    ensures text { IfOk result (λ text. text ≡ svg_text link.now drawing.now) }
     ensures well_formed { IfOk result (IsDocument (codes "svg")) }
-    ensures marks { ShowsMarks drawing.now }
+    ensures marks { ShowsMarks link.now drawing.now }
+    ensures links { ShowsLinks link.now drawing.now }
 {
     let mut sink = ListSink::new(alloc);
-    match write_whole(alloc, &mut sink, drawing) {
+    match write_whole(alloc, &mut sink, drawing, link) {
         Ok(()) => Ok(sink.into_list()),
         Err(NoMemory) => {
             drop(sink);

@@ -4,7 +4,7 @@ use Rattle.result_text.specs.declared.file.EdgeLine.{EdgeLine}
 use Rattle.result_text.specs.declared.file.ResultFile.{ResultFile}
 use Rattle.drawing.specs.declared.drawing.Drawing.{Drawing}
 use Rattle.drawing.specs.Picture.{IsDrawingOf}
-use Rattle.drawing.specs.Svg.{ShowsMarks, svg_text}
+use Rattle.drawing.specs.Svg.{ShowsLinks, ShowsMarks, svg_text}
 use Rattle.drawing.specs.Tidy.{IsTidy}
 use Rattle.drawing.specs.Xml.{IsDocument}
 use Rattle.tor_words.specs.declared.view_settings.ViewSettings.{ViewSettings}
@@ -20,12 +20,12 @@ HasEdge edges a = (line : EdgeLine) × Contains edges line × ((line.low ≡ a) 
 abbrev pub absent_note : ℕ → List ℕ
 absent_note a = codes "absent|" ++ decimal a ++ 10 ∷ []
 
--- the text is that of the picture that is asked for, after these edges; the picture is tidy and takes nothing open for certain, and the
--- text is well formed
+-- the text is that of the picture that is asked for, after these edges; the picture is tidy, takes nothing open for certain and leads only
+-- where the link says, and the text is well formed
 abbrev pub IsPictureOf : ViewSettings → List EdgeLine → List ℕ → Type 0
 IsPictureOf settings edges text =
-    (d : Drawing) × IsDrawingOf edges settings.asked settings.most settings.depth d × IsTidy d × ShowsMarks d ×
-    (text ≡ svg_text d) × IsDocument (codes "svg") text
+    (d : Drawing) × IsDrawingOf edges settings.asked settings.most settings.depth d × IsTidy d × ShowsMarks settings.link d ×
+    ShowsLinks settings.link d × (text ≡ svg_text settings.link d) × IsDocument (codes "svg") text
 
 -- the text is that of the picture after the edges of the result; or no edge has the AS
 abbrev pub IsSeen : ViewSettings → ResultFile → Option (List ℕ) → Type 0

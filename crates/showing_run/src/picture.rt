@@ -2,7 +2,7 @@
 ghost use Rattle.std.specs.Prelude.{◌≡◌, ◌⊎◌, Some, IfOk, IfErr, IsTrue, IsFalse, string_bytes};
 ghost use Rattle.std.specs.Io.KnownBytes.{append_known};
 ghost use Rattle.tor_io.specs.Contents.{GainsPrefix};
-ghost use Rattle.tor_words.specs.ViewGiven.{AreFew};
+ghost use Rattle.tor_words.specs.ViewGiven.{AreWithin};
 ghost use Rattle.run_base.specs.Answers.{note_in};
 ghost use Rattle.run_base.specs.Frames.{RunLeavesOut};
 ghost use Rattle.run_base.specs.Notes.{plain_note};
@@ -66,13 +66,13 @@ fn picture_of(
     settings: &ViewSettings,
     edges: &[EdgeLine],
 ) -> Result<List<u8>, NoMemory>
-    requires few { AreFew settings.now }
+    requires within { AreWithin settings.now }
     ensures { IfOk result (IsPictureOf settings.now edges.now) }
 {
     let most = settings.most as usize;
     let depth = settings.depth as usize;
     let drawing = draw_neighbours(alloc, keys, edges, settings.asked, most, depth)?;
-    svg_of(alloc, &drawing)
+    svg_of(alloc, &drawing, &settings.link)
 }
 
 // The picture of a result that meets the rules.
@@ -82,7 +82,7 @@ fn seen_of(
     settings: &ViewSettings,
     file: ResultFile,
 ) -> Result<Picture, Stop>
-    requires few { AreFew settings.now }
+    requires within { AreWithin settings.now }
     ensures same { IfOk result (λ picture. picture.file ≡ file) }
     ensures seen { IfOk result (λ picture. IsSeen settings.now picture.file (Some picture.text)) }
     ensures unseen { IfErr result (IsUnanswered viewing settings.now file) }
@@ -103,7 +103,7 @@ pub(crate) fn seen_in<H: Shelf>(
     settings: &ViewSettings,
     shelf: &mut H,
 ) -> Result<Picture, Stop>
-    requires few { AreFew settings.now }
+    requires within { AreWithin settings.now }
     ensures asks { Asks (showing viewing) settings.now H.Shelf its_result result shelf.old shelf.new }
     ensures seen { IfOk result (λ picture. IsSeen settings.now picture.file (Some picture.text)) }
 {

@@ -1,5 +1,5 @@
 //! The run of `torview`.
-ghost use Rattle.tor_words.specs.ViewGiven.{AreFew};
+ghost use Rattle.tor_words.specs.ViewGiven.{AreWithin};
 ghost use Rattle.run_base.specs.Answers.{note_in};
 ghost use Rattle.run_base.specs.Promises.{EndsIn, KeepsPromises, RunEnds};
 ghost use Rattle.showing_run.specs.Asking.{showing};
@@ -21,7 +21,7 @@ fn answer_in<H: Shelf, O: Sink>(
     shelf: &mut H,
     out: &mut O,
 ) -> Answer
-    requires few { AreFew settings.now }
+    requires within { AreWithin settings.now }
     ensures { EndsIn (showing viewing) settings.now H.Shelf O.Sink result.status (note_in result) shelf.old shelf.new out.old out.new }
 {
     match seen_in(alloc, keys, settings, shelf) {

@@ -77,7 +77,7 @@ path_of_a_number : why_settings_given (codes "r" ∷ codes "--path=3" ∷ []) �
 unfolding why_settings_given torwhy_command bundle_met walked flags_fault walk_fault defaults_fault
 path_of_a_number = refl
 
-picture_of_an_as : view_settings_given (codes "r" ∷ codes "AS4294967295" ∷ []) ≡ Some (record { result = codes "r"; asked = 4294967295; most = 60; depth = 1 })
+picture_of_an_as : view_settings_given (codes "r" ∷ codes "AS4294967295" ∷ []) ≡ Some (record { result = codes "r"; asked = 4294967295; most = 60; depth = 1; link = None })
 unfolding view_settings_given torview_command bundle_met walked flags_fault walk_fault defaults_fault
 picture_of_an_as = refl
 

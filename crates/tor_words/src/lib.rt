@@ -13,6 +13,7 @@ mod job;
 mod laws;
 mod leak_command;
 mod leak_settings;
+mod links;
 mod matching;
 mod name;
 mod rank_command;

@@ -7,8 +7,12 @@ use crate::entries::{Entry, command_of};
 use clap::Command;
 use std::alloc::{AllocError, Global};
 
+/// What help says of links.
+const LINK_HELP: &str =
+    "Have the box of each AS lead there: an address of the web, in which the AS's number takes the place of each {}";
+
 /// The options, the file and the AS.
-static TORVIEW: [Entry; 4] = [
+static TORVIEW: [Entry; 5] = [
     Entry::Number(
         "most",
         1,
@@ -21,6 +25,7 @@ static TORVIEW: [Entry; 4] = [
         8,
         "Draw this many generations of providers, 1 to 8: its own, their providers and so on [default: 1]",
     ),
+    Entry::Choice("link", LINK_HELP),
     Entry::Needed("result", "A result that meets all rules"),
     Entry::Needed(
         "as",

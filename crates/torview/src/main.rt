@@ -1,4 +1,4 @@
-// Draws one AS of a result with its neighbours: `torview [--most N] [--depth N] RESULT AS`.
+// Draws one AS of a result with its neighbours: `torview [--most N] [--depth N] [--link URL] RESULT AS`.
 #![tactic(auto)]
 
 use run_base::{Status, code_of_failure};

@@ -1,5 +1,5 @@
-use Rattle.tor_io.proofs.Putting.{puts_then}
+use Rattle.tor_io.proofs.Putting.{puts_as, puts_then}
 use Rattle.drawing.proofs.printing.put_centre.Goals as goal
 
 pub returns : goal.returns
-returns g c = puts_then c.put.ensures (puts_then c.put_centre_inside.ensures c.put-2.ensures)
+returns g c = puts_then c.put_box_start.ensures (puts_then c.put_centre_inside.ensures (puts_as c.put.ensures c.box_end.ensures))

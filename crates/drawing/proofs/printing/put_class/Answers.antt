@@ -1,6 +1,6 @@
 use Rattle.std.proofs.Common.{refl}
 use Rattle.drawing.specs.Xml.{attribute_text}
-use Rattle.tor_io.proofs.Putting.{puts_as, puts_then}
+use Rattle.tor_io.proofs.Putting.{puts_as}
 use Rattle.drawing.proofs.printing.put_class.Goals as goal
 
 pub returns : goal.returns

@@ -9,9 +9,9 @@ use Rattle.drawing.proofs.printing.put_items.Goals as goal
 
 pub loop-item-preserved : goal.loop-item-preserved
 loop-item-preserved g c =
-    puts_as (puts_then c.loop-item.invariant c.put_item.ensures) (sym (more_text item_nodes c.args.items.now c.loop-item.item-index _ c.loop-item-test.true))
+    puts_as (puts_then c.loop-item.invariant c.put_item.ensures) (sym (more_text (item_nodes c.args.link.now) c.args.items.now c.loop-item.item-index _ c.loop-item-test.true))
 
 pub returns : goal.returns
 returns g c =
     puts_as c.loop-item.invariant
-    (ap (λ xs. nodes_text (flat_map item_nodes xs)) (take_all c.loop-item.item-index c.args.items.now (omega (arith, c.loop-item-test.false))))
+    (ap (λ xs. nodes_text (flat_map (item_nodes c.args.link.now) xs)) (take_all c.loop-item.item-index c.args.items.now (omega (arith, c.loop-item-test.false))))

@@ -9,4 +9,4 @@ abbrev pub invariant-loop-item : goal.invariant-loop-item
 invariant-loop-item g l =
     let sink = g.S.Sink in
     Puts (state (sink.held l.fn.out) (sink.faults l.fn.out) l.fn.flow) (state (sink.held l.out) (sink.faults l.out) l.flow)
-    (nodes_text (flat_map item_nodes (take l.item-index l.items)))
+    (nodes_text (flat_map (item_nodes l.link) (take l.item-index l.items)))

@@ -9,4 +9,4 @@ abbrev pub invariant-loop-post : goal.invariant-loop-post
 invariant-loop-post g l =
     let sink = g.S.Sink in
     Puts (state (sink.held l.fn.out) (sink.faults l.fn.out) l.fn.flow) (state (sink.held l.out) (sink.faults l.out) l.flow)
-    (nodes_text (flat_map post_nodes (take l.post-index l.posts)))
+    (nodes_text (flat_map (post_nodes l.link) (take l.post-index l.posts)))

@@ -1,4 +1,4 @@
-use Rattle.std.proofs.Common.{◌∷◌, ◌∙◌, ap, sym}
+use Rattle.std.proofs.Common.{◌∷◌, ap, sym}
 use Rattle.std.proofs.lemmas.List.{append-nil}
 use Rattle.tor_io.proofs.Putting.{puts_as, puts_then}
 use Rattle.drawing.specs.Svg.{point, points}

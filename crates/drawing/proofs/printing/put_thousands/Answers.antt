@@ -1,5 +1,4 @@
 use Rattle.drawing.specs.Svg.{thousands}
-use Rattle.tor_io.proofs.Putting.{puts_then}
 use Rattle.drawing.proofs.printing.put_thousands.Goals as goal
 
 pub returns : goal.returns
