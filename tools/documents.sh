@@ -16,7 +16,7 @@ import subprocess
 import sys
 
 BUDGETS = {
-    'README.md': 1700, 'docs/PROMISES.md': 5310, 'docs/FORMATS.md': 6530, 'docs/DECISIONS.md': 4500, 'docs/ARCHITECTURE.md': 3520,
+    'README.md': 1700, 'docs/PROMISES.md': 5320, 'docs/FORMATS.md': 6530, 'docs/DECISIONS.md': 4500, 'docs/ARCHITECTURE.md': 3520,
     'docs/PROVING.md': 2800, 'bench/README.md': 1940, 'docs/CONTRIBUTING.md': 900, 'samples/README.md': 500,
 }
 ALL_WORDS = 27270

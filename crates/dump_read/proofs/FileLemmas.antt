@@ -1,10 +1,12 @@
 -- What a file holds is counted record by record.
 use Rattle.std.proofs.Common.{◌≡◌, false, ℕ, ◌+◌, ◌≤◌, ◌^◌, ◌-◌, List, [], ◌∷◌, ◌++◌, length, Option, Some, None, IfSome, Result, Ok, Err, refl, sym, ap, ap₂, subst, ◌∙◌, arith}
 use Rattle.std.specs.Prelude.{sum_by, is_some, OnErr}
-use Rattle.path_clean.specs.declared.cleaned.Sets.{Sets}
+use Rattle.dump_read.specs.Wanted.{Wanted, counts as it_counts, which_count, file_routes}
+use Rattle.rib_bodies.specs.declared.peers.Peer.{Peer}
 use Rattle.dump_read.specs.Seen.{of_octets}
 use Rattle.dump_read.specs.Taking.{Taken}
 use Rattle.std.proofs.lemmas.List.{length-append}
+use Rattle.std.proofs.lemmas.List.Elements.{filter-append}
 use Rattle.std.proofs.lemmas.List.Sums.{sum_by-cons}
 use Rattle.record_counts.specs.Counting.{Counts, capped}
 use Rattle.mrt_frame.specs.declared.header.At.{At}
@@ -17,7 +19,7 @@ use Rattle.mrt_frame.proofs.Cuts.{any_fuel, cut_onto, cut_ends}
 use Rattle.mrt_frame.proofs.Passing.{NoneIsRead, with_before, passes_over}
 use Rattle.dump_read.specs.Files.{FileCounts, file_counts, with_file, listed_in, peers_listed, many, with_one}
 use Rattle.dump_read.specs.Routes.{Route, routes_of, peers_behind}
-use Rattle.dump_read.specs.Reading.{Reading, file_end, routes_onto as reading_onto, reading_from, file_reading}
+use Rattle.dump_read.specs.Reading.{Reading, file_end, routes_onto as reading_onto, reading_from}
 use Rattle.dump_read.proofs.Goings.{at_end, skipped, through}
 
 -- ---- sums that stop
@@ -44,7 +46,7 @@ none_listed (r ∷ records) more none =
     ∙ ap₂ (λ (a b : ℕ). a + b) (nothing_listed (kind_of r.kind r.subtype) r.body none.0) (none_listed records more none.1)
     ∙ omega arith
 
-all_skipped : (peers : Option ℕ) (records : List Record) (c : Cut) → NoneIsRead records → reading_from peers (with_before records c) ≡ reading_from peers c
+all_skipped : (peers : Option (List Peer)) (records : List Record) (c : Cut) → NoneIsRead records → reading_from peers (with_before records c) ≡ reading_from peers c
 all_skipped peers [] c none = refl
 all_skipped peers (r ∷ records) c none = skipped peers r (with_before records c) none.0 ∙ all_skipped peers records c none.1
 
@@ -66,27 +68,27 @@ passed_to at octets place reached passes =
 -- ---- the counts so far
 
 -- where the octets of the file are known: what was counted so far comes with what is left to what the file holds
-pub record CountsSoFar (octets : List ℕ) (left : Option (List ℕ)) (at : At) (peers : Option ℕ) (file : FileCounts) : Type 0 where
+pub record CountsSoFar (wanted : Wanted) (octets : List ℕ) (left : Option (List ℕ)) (at : At) (peers : Option (List Peer)) (file : FileCounts) : Type 0 where
   pub rest : List ℕ
   pub is_left : left ≡ Some rest
   pub records : with_records (cut_from at rest).records file.records ≡ records_in octets
   pub listed : capped (file.peers + sum_by peers_listed (cut_from at rest).records) ≡ capped (sum_by peers_listed (cut octets).records)
-  pub routes : capped (file.routes + length (reading_from peers (cut_from at rest)).routes) ≡ capped (length (file_reading octets).routes)
+  pub routes : capped (file.routes + length (which_count wanted (reading_from peers (cut_from at rest)).routes)) ≡ capped (length (file_routes wanted octets))
   pub few_peers : file.peers ≤ 2 ^ 64 - 1
   pub few_routes : file.routes ≤ 2 ^ 64 - 1
 
-abbrev pub CountsOf : Option (List ℕ) → Option (List ℕ) → At → Option ℕ → FileCounts → Type 0
-CountsOf None left at peers file = Unit {0}
-CountsOf (Some octets) left at peers file = CountsSoFar octets left at peers file
+abbrev pub CountsOf : Wanted → Option (List ℕ) → Option (List ℕ) → At → Option (List Peer) → FileCounts → Type 0
+CountsOf wanted None left at peers file = Unit {0}
+CountsOf wanted (Some octets) left at peers file = CountsSoFar wanted octets left at peers file
 
-pub nothing_counted : (left : Option (List ℕ)) → CountsOf left left start None (record { records = []; peers = 0; routes = 0 })
-nothing_counted None = tt
-nothing_counted (Some octets) = record {
+pub nothing_counted : (wanted : Wanted) (left : Option (List ℕ)) → CountsOf wanted left left start None (record { records = []; peers = 0; routes = 0 })
+nothing_counted wanted None = tt
+nothing_counted wanted (Some octets) = record {
   rest = octets;
   is_left = refl;
   records = refl;
   listed = ap capped (zero_before (sum_by peers_listed (cut octets).records));
-  routes = ap capped (zero_before (length (file_reading octets).routes));
+  routes = ap capped (zero_before (length (file_routes wanted octets)));
   few_peers = omega arith;
   few_routes = omega arith;
 }
@@ -99,11 +101,11 @@ abbrev pub recounted : FileCounts → Counts → FileCounts
 recounted file counts = record file { records = counts }
 
 -- one record that is read, and those that were passed over before it
-pub counted_one : (left₀ left left' : Option (List ℕ)) (at : At) (peers peers' : Option ℕ) (r : Record) (file new : FileCounts) (counts : Counts) (routes : List Route)
-    → CountsOf left₀ left at peers file → IfSome left (λ octets. FindsNext at octets r left') → CountsOn left at file.records left' (place_behind r) counts
-    → routes_of peers r ≡ Ok routes → peers' ≡ peers_behind peers r → new ≡ with_one peers r (recounted file counts) → CountsOf left₀ left' (place_behind r) peers' new
-counted_one None left left' at peers peers' r file new counts routes so_far finds on read after is = tt
-counted_one (Some octets) left left' at peers peers' r file new counts routes so_far finds on read after is =
+pub counted_one : (wanted : Wanted) (left₀ left left' : Option (List ℕ)) (at : At) (peers peers' : Option (List Peer)) (r : Record) (file new : FileCounts) (counts : Counts) (routes : List Route)
+    → CountsOf wanted left₀ left at peers file → IfSome left (λ octets. FindsNext at octets r left') → CountsOn left at file.records left' (place_behind r) counts
+    → routes_of peers r ≡ Ok routes → peers' ≡ peers_behind peers r → new ≡ with_one wanted peers r (recounted file counts) → CountsOf wanted left₀ left' (place_behind r) peers' new
+counted_one wanted None left left' at peers peers' r file new counts routes so_far finds on read after is = tt
+counted_one wanted (Some octets) left left' at peers peers' r file new counts routes so_far finds on read after is =
     let f : FindsNext at so_far.rest r left' = subst (λ o. IfSome o (λ b. FindsNext at b r left')) so_far.is_left finds in
     let p = passed_to at so_far.rest r.at f.reached f.passes in
     let more = cut_from (place_behind r) f.rest in
@@ -113,28 +115,29 @@ counted_one (Some octets) left left' at peers peers' r file new counts routes so
     let further = reading_from (peers_behind peers r) more in
     let reading : reading_from peers (cut_from at so_far.rest) ≡ record { routes = routes ++ further.routes; end = further.end } =
     ap (reading_from peers) whole ∙ all_skipped peers p.records (onto r more) p.none ∙ through peers r more ∙ ap (λ x. reading_onto r.at x further) read in
-    let gained : many (routes_of peers r) ≡ length routes = ap many read in
+    let gained : many wanted (routes_of peers r) ≡ length (which_count wanted routes) = ap (many wanted) read in
     let on_left : CountsOn (Some so_far.rest) at file.records (Some f.rest) (place_behind r) counts =
     subst (λ o. CountsOn (Some so_far.rest) at file.records o (place_behind r) counts) f.leaves (subst (λ o. CountsOn o at file.records left' (place_behind r) counts) so_far.is_left on) in
-    subst (λ (x : FileCounts). CountsSoFar octets left' (place_behind r) peers' x) (sym is) (record {
+    subst (λ (x : FileCounts). CountsSoFar wanted octets left' (place_behind r) peers' x) (sym is) (record {
       rest = f.rest;
       is_left = f.leaves;
       records = on_left ∙ so_far.records;
       listed = capped_again file.peers (peers_listed r) (sum_by peers_listed more.records) ∙ ap (λ n. capped (file.peers + n)) (sym sum) ∙ so_far.listed;
-      routes = ap (λ (q : Option ℕ). capped (capped (file.routes + many (routes_of peers r)) + length (reading_from q more).routes)) after
-          ∙ capped_again file.routes (many (routes_of peers r)) (length further.routes)
-          ∙ ap (λ n. capped (file.routes + (n + length further.routes))) gained
-          ∙ ap (λ n. capped (file.routes + n)) (sym (length-append routes further.routes))
-          ∙ ap (λ (x : Reading). capped (file.routes + length x.routes)) (sym reading) ∙ so_far.routes;
+      routes = ap (λ (q : Option (List Peer)). capped (capped (file.routes + many wanted (routes_of peers r)) + length (which_count wanted (reading_from q more).routes))) after
+          ∙ capped_again file.routes (many wanted (routes_of peers r)) (length (which_count wanted further.routes))
+          ∙ ap (λ n. capped (file.routes + (n + length (which_count wanted further.routes)))) gained
+          ∙ ap (λ n. capped (file.routes + n)) (sym (length-append (which_count wanted routes) (which_count wanted further.routes)))
+          ∙ ap (λ (t : List Route). capped (file.routes + length t)) (sym (filter-append (it_counts wanted) routes further.routes))
+          ∙ ap (λ (x : Reading). capped (file.routes + length (which_count wanted x.routes))) (sym reading) ∙ so_far.routes;
       few_peers = below_cap (file.peers + peers_listed r);
-      few_routes = below_cap (file.routes + many (routes_of peers r));
+      few_routes = below_cap (file.routes + many wanted (routes_of peers r));
     })
 
 -- at the end of the file it is all that it holds
-pub all_counted : (left₀ left : Option (List ℕ)) (at : At) (peers : Option ℕ) (file : FileCounts) (counts : Counts) → CountsOf left₀ left at peers file
-    → IfSome left (λ octets. StopsWith at octets Well) → CountsAll left at file.records counts → IfSome left₀ (λ octets. recounted file counts ≡ file_counts octets)
-all_counted None left at peers file counts so_far stops all = tt
-all_counted (Some octets) left at peers file counts so_far stops all =
+pub all_counted : (wanted : Wanted) (left₀ left : Option (List ℕ)) (at : At) (peers : Option (List Peer)) (file : FileCounts) (counts : Counts) → CountsOf wanted left₀ left at peers file
+    → IfSome left (λ octets. StopsWith at octets Well) → CountsAll left at file.records counts → IfSome left₀ (λ octets. recounted file counts ≡ file_counts wanted octets)
+all_counted wanted None left at peers file counts so_far stops all = tt
+all_counted wanted (Some octets) left at peers file counts so_far stops all =
     let s : StopsWith at so_far.rest Well = subst (λ o. IfSome o (λ b. StopsWith at b Well)) so_far.is_left stops in
     let p = passed_to at so_far.rest s.place s.reached s.passes in
     let none : Cut = record { records = []; end = Well } in
@@ -145,16 +148,16 @@ all_counted (Some octets) left at peers file counts so_far stops all =
     let counted : counts ≡ with_records (cut_from at so_far.rest).records file.records = subst (λ o. CountsAll o at file.records counts) so_far.is_left all in
     let listed : file.peers ≡ capped (sum_by peers_listed (cut octets).records) =
     sym (capped_twice file.peers so_far.few_peers) ∙ ap (λ n. capped (file.peers + n)) (sym sum) ∙ so_far.listed in
-    let routes : file.routes ≡ capped (length (file_reading octets).routes) =
-    sym (capped_twice file.routes so_far.few_routes) ∙ ap (λ (x : Reading). capped (file.routes + length x.routes)) (sym reading) ∙ so_far.routes in
+    let routes : file.routes ≡ capped (length (file_routes wanted octets)) =
+    sym (capped_twice file.routes so_far.few_routes) ∙ ap (λ (x : Reading). capped (file.routes + length (which_count wanted x.routes))) (sym reading) ∙ so_far.routes in
     λ i. record { records = (counted ∙ so_far.records) i; peers = listed i; routes = routes i }
 
 -- what was kept at the end of the file
-pub read_to_end : (sets : Sets) (d : ℕ) (left₀ : Option (List ℕ)) (old mid new : Taken) (file : FileCounts) → new ≡ record mid { files = mid.files ++ file ∷ [] }
-    → IfSome left₀ (λ octets. of_octets sets d old octets ≡ Ok (with_file octets mid)) → IfSome left₀ (λ octets. file ≡ file_counts octets)
-    → IfSome left₀ (λ octets. of_octets sets d old octets ≡ Ok new)
-read_to_end sets d None old mid new file kept read held = tt
-read_to_end sets d (Some octets) old mid new file kept read held =
+pub read_to_end : (wanted : Wanted) (d : ℕ) (left₀ : Option (List ℕ)) (old mid new : Taken) (file : FileCounts) → new ≡ record mid { files = mid.files ++ file ∷ [] }
+    → IfSome left₀ (λ octets. of_octets wanted d old octets ≡ Ok (with_file wanted octets mid)) → IfSome left₀ (λ octets. file ≡ file_counts wanted octets)
+    → IfSome left₀ (λ octets. of_octets wanted d old octets ≡ Ok new)
+read_to_end wanted d None old mid new file kept read held = tt
+read_to_end wanted d (Some octets) old mid new file kept read held =
     read ∙ ap (λ (f : FileCounts). Ok (record mid { files = mid.files ++ f ∷ [] })) (sym held) ∙ ap (λ (t : Taken). Ok t) (sym kept)
 
 -- what follows where a result is an error

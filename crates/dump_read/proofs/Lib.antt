@@ -1,4 +1,7 @@
+pub mod Countings
 pub mod Takings
+pub mod OneRecord
+pub mod Outcomes
 pub mod Goings
 pub mod BatchLemmas
 pub mod FileLemmas

@@ -27,6 +27,7 @@ use Rattle.dump_read.specs.declared.taking.Untaken.TheVariants as untaken
 use Rattle.dump_read.specs.Reach.{ReadsBounded, LeavesRestOfDump}
 use Rattle.dump_read.specs.Refusals.{IsUnread, IsOfDump, of_frame, of_unread}
 use Rattle.dump_read.specs.Routes.{Route}
+use Rattle.dump_read.specs.Wanted.{Wanted, which_count}
 use Rattle.dump_read.specs.Taking.{Taken, take_cleaned, take_route, take_routes, has_too_many_numbers, with_one}
 use Rattle.dump_read.proofs.LimitLemmas.{refuses}
 
@@ -83,14 +84,14 @@ no_route sets taken (route ∷ routes) is =
         refuses (is_some (place_of taken.table.rows path)) (length taken.table.rows == taken.table.limit) (has_too_many_numbers taken.table path)
         (record taken { table = with_one taken.table path }) Bytes (made ∙ ap (λ (t : LimitKind). Err t) (same_kind k Bytes e))
 
-pub no_record : (sets : Sets) (d : ℕ) (at : At) (mid : Taken) (read : Result (List Route) RibFault) (why : Unread) → IsUnread sets mid read why → of_unread d at why ≡ error.Limit Bytes → ⊥
-no_record sets d at mid read (unread.Fault broken) is e = absurd cc
-no_record sets d at mid read (unread.Untaken (untaken.Limit kind)) is e =
-    let same : kind ≡ Bytes = kind_is kind e in no_route sets mid is.0 (is.2 ∙ ap (λ (k : LimitKind). Err k) same)
+pub no_record : (wanted : Wanted) (d : ℕ) (at : At) (mid : Taken) (read : Result (List Route) RibFault) (why : Unread) → IsUnread wanted mid read why → of_unread d at why ≡ error.Limit Bytes → ⊥
+no_record wanted d at mid read (unread.Fault broken) is e = absurd cc
+no_record wanted d at mid read (unread.Untaken (untaken.Limit kind)) is e =
+    let same : kind ≡ Bytes = kind_is kind e in no_route wanted.sets mid (which_count wanted is.0) (is.2 ∙ ap (λ (k : LimitKind). Err k) same)
   where
     kind_is : (kind : LimitKind) → ◌≡◌ {A = DumpError} (error.Limit kind) (error.Limit Bytes) → kind ≡ Bytes
     kind_is kind e = cc
-no_record sets d at mid read (unread.Untaken untaken.NoMemory) is e = absurd cc
+no_record wanted d at mid read (unread.Untaken untaken.NoMemory) is e = absurd cc
 
 -- ---- the file of a name
 

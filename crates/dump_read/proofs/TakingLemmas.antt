@@ -22,6 +22,7 @@ use Rattle.dump_read.specs.declared.error.LimitKind.TheVariants.{Paths, Numbers}
 use Rattle.dump_read.specs.Routes.{Route}
 use Rattle.dump_read.specs.Taking.{Taken, with_one, has_too_many_numbers, take_path, take_cleaned, take_route, take_routes, Takes}
 use Rattle.dump_read.specs.Batches.{cleaned}
+use Rattle.dump_read.specs.Wanted.{Wanted, file_routes}
 use Rattle.dump_read.specs.Reading.{FileEnd, Whole, Broken, TooLong, file_reading}
 use Rattle.dump_read.specs.Files.{with_file}
 use Rattle.dump_read.specs.Seen.{DumpsEnd, of_end, of_taking, of_file}
@@ -164,29 +165,29 @@ taking sets routes old new empty takes = further sets [] routes old new (nothing
 one_end : (x y : Taken) → ◌≡◌ {A = Result Taken DumpsEnd} (Ok x) (Ok y) → x ≡ y
 one_end x y e = cc
 
-files_push : (files : List (List ℕ)) (octets : List ℕ) → routes_in_files (files ++ octets ∷ []) ≡ routes_in_files files ++ (file_reading octets).routes
-files_push files octets =
-    flat_map-append (λ (o : List ℕ). (file_reading o).routes) files (octets ∷ []) ∙ ap (λ (t : List Route). routes_in_files files ++ t) (append-nil (file_reading octets).routes)
+files_push : (wanted : Wanted) (files : List (List ℕ)) (octets : List ℕ) → routes_in_files wanted (files ++ octets ∷ []) ≡ routes_in_files wanted files ++ file_routes wanted octets
+files_push wanted files octets =
+    flat_map-append (file_routes wanted) files (octets ∷ []) ∙ ap (λ (t : List Route). routes_in_files wanted files ++ t) (append-nil (file_routes wanted octets))
 
-one_file : (sets : Sets) (dump : ℕ) (before : List (List ℕ)) (octets : List ℕ) (old new : Taken) → IsTakenOf sets (routes_in_files before) old
-    → (taking : Result Taken LimitKind) → take_routes sets old (file_reading octets).routes ≡ taking → (end : FileEnd)
-    → (of_taking dump taking >>= λ all. of_end dump end (with_file octets all)) ≡ Ok new → IsTakenOf sets (routes_in_files (before ++ octets ∷ [])) new
-one_file sets dump before octets old new so_far (Err kind) takes end e = absurd cc
-one_file sets dump before octets old new so_far (Ok all) takes (Broken at fault) e = absurd cc
-one_file sets dump before octets old new so_far (Ok all) takes TooLong e = absurd cc
-one_file sets dump before octets old new so_far (Ok all) takes Whole e =
-    let more = further sets (routes_in_files before) (file_reading octets).routes old all so_far takes in
-    subst (IsTakenOf sets (routes_in_files (before ++ octets ∷ []))) (one_end (with_file octets all) new e)
-    (subst (λ (t : List Route). IsTakenOf sets t (with_file octets all)) (sym (files_push before octets)) (record { rows = more.rows; asides = more.asides }))
+one_file : (wanted : Wanted) (dump : ℕ) (before : List (List ℕ)) (octets : List ℕ) (old new : Taken) → IsTakenOf wanted.sets (routes_in_files wanted before) old
+    → (taking : Result Taken LimitKind) → take_routes wanted.sets old (file_routes wanted octets) ≡ taking → (end : FileEnd)
+    → (of_taking dump taking >>= λ all. of_end dump end (with_file wanted octets all)) ≡ Ok new → IsTakenOf wanted.sets (routes_in_files wanted (before ++ octets ∷ [])) new
+one_file wanted dump before octets old new so_far (Err kind) takes end e = absurd cc
+one_file wanted dump before octets old new so_far (Ok all) takes (Broken at fault) e = absurd cc
+one_file wanted dump before octets old new so_far (Ok all) takes TooLong e = absurd cc
+one_file wanted dump before octets old new so_far (Ok all) takes Whole e =
+    let more = further wanted.sets (routes_in_files wanted before) (file_routes wanted octets) old all so_far takes in
+    subst (IsTakenOf wanted.sets (routes_in_files wanted (before ++ octets ∷ []))) (one_end (with_file wanted octets all) new e)
+    (subst (λ (t : List Route). IsTakenOf wanted.sets t (with_file wanted octets all)) (sym (files_push wanted before octets)) (record { rows = more.rows; asides = more.asides }))
 
-next_dump : (sets : Sets) (dump : ℕ) (before : List (List ℕ)) (file : Option (List ℕ)) (old new : Taken)
-    → IsTakenOf sets (routes_in_files before) old → of_file sets dump old file ≡ Ok new → IsOneMore sets before file new
-next_dump sets dump before None old new so_far e = absurd cc
-next_dump sets dump before (Some octets) old new so_far e = record {
+next_dump : (wanted : Wanted) (dump : ℕ) (before : List (List ℕ)) (file : Option (List ℕ)) (old new : Taken)
+    → IsTakenOf wanted.sets (routes_in_files wanted before) old → of_file wanted dump old file ≡ Ok new → IsOneMore wanted before file new
+next_dump wanted dump before None old new so_far e = absurd cc
+next_dump wanted dump before (Some octets) old new so_far e = record {
   octets = octets;
   there = refl;
-  taken = one_file sets dump before octets old new so_far (take_routes sets old (file_reading octets).routes) refl (file_reading octets).end e;
+  taken = one_file wanted dump before octets old new so_far (take_routes wanted.sets old (file_routes wanted octets)) refl (file_reading octets).end e;
 }
 
 pub dumps : DumpLaw
-dumps = record { first = nothing; further = next_dump }
+dumps = record { first = λ wanted. nothing wanted.sets; further = next_dump }

@@ -1,5 +1,5 @@
 -- Routes that are taken in one after the other.
-use Rattle.std.proofs.Common.{◌≡◌, Option, Some, ℕ, List, [], ◌∷◌, ◌++◌, length, take, Result, Ok, Err, refl, sym, ap, subst, ◌∙◌, arith}
+use Rattle.std.proofs.Common.{◌≡◌, List, [], ◌∷◌, ◌++◌, length, take, Result, Ok, Err, refl, sym, ap, subst, ◌∙◌, arith}
 use Rattle.std.proofs.lemmas.List.{append_assoc, append-nil, length-append}
 use Rattle.std.proofs.Math.Seq.{take-append_seam}
 use Rattle.path_attrs.specs.Fields.{◌>>=◌}
@@ -7,16 +7,11 @@ use Rattle.path_clean.specs.declared.cleaned.Sets.{Sets}
 use Rattle.dump_read.specs.declared.error.LimitKind.{LimitKind}
 use Rattle.path_attrs.specs.declared.fault.RibFault.{RibFault}
 use Rattle.dump_read.specs.declared.records.Unread.TheVariants as unread
-use Rattle.rib_bodies.specs.PeerTable.{peers_of}
-use Rattle.rib_bodies.specs.declared.peer_table.Peers.{Peers}
-use Rattle.mrt_header.specs.declared.record_kind.RecordKind.{RecordKind}
-use Rattle.mrt_frame.specs.declared.header.At.{At}
-use Rattle.mrt_frame.specs.Frames.{record_as}
-use Rattle.mrt_frame.proofs.KindNumbers.{kind_again}
-use Rattle.dump_read.specs.Routes.{Route, of_peer_table_read, routes_in, routes_of}
+use Rattle.dump_read.specs.Wanted.{Wanted, which_count}
+use Rattle.dump_read.specs.Routes.{Route}
 use Rattle.dump_read.specs.declared.taking.Untaken.{Untaken}
 use Rattle.dump_read.specs.declared.taking.Untaken.TheVariants as untaken
-use Rattle.dump_read.specs.Refusals.{IsLimit, IsUnread, TakesRead, TakesSomeRead}
+use Rattle.dump_read.specs.Refusals.{IsLimit, IsUnread, TakesSomeRead}
 use Rattle.dump_read.specs.Taking.{Taken, take_route, take_routes, Takes, TakesSome}
 
 -- what was taken in so far, and then the others
@@ -93,22 +88,14 @@ some_taken sets old mid new all left so_far same = (
 -- ---- a record
 
 -- routes were read, and what became of them
-pub unread_routes : (sets : Sets) (old : Taken) (read : Result (List Route) RibFault) (routes : List Route) (why : Untaken) → Ok routes ≡ read
-    → IsLimit (take_routes sets old routes) why → IsUnread sets old read (unread.Untaken why)
-unread_routes sets old read routes (untaken.Limit kind) is all = (routes, sym is, all)
-unread_routes sets old read routes untaken.NoMemory is all = tt
+pub unread_routes : (wanted : Wanted) (old : Taken) (read : Result (List Route) RibFault) (routes : List Route) (why : Untaken) → Ok routes ≡ read
+    → IsLimit (take_routes wanted.sets old (which_count wanted routes)) why → IsUnread wanted old read (unread.Untaken why)
+unread_routes wanted old read routes (untaken.Limit kind) is all = (routes, sym is, all)
+unread_routes wanted old read routes untaken.NoMemory is all = tt
 
-pub some_of : (sets : Sets) (old new : Taken) (read : Result (List Route) RibFault) (routes : List Route) → Ok routes ≡ read → TakesSome sets old routes new → TakesSomeRead sets old read new
-some_of sets old new read routes is some = subst (λ (x : Result (List Route) RibFault). TakesSomeRead sets old x new) is some
+pub some_of : (wanted : Wanted) (old new : Taken) (read : Result (List Route) RibFault) (routes : List Route) → Ok routes ≡ read → TakesSome wanted.sets old (which_count wanted routes) new → TakesSomeRead wanted old read new
+some_of wanted old new read routes is some = subst (λ (x : Result (List Route) RibFault). TakesSomeRead wanted old x new) is some
 
-pub none_of : (sets : Sets) (old new : Taken) (read : Result (List Route) RibFault) → new ≡ old → TakesSomeRead sets old read new
-none_of sets old new (Ok routes) same = (0, omega arith, no_entry sets old ∙ ap (λ (t : Taken). Ok t) (sym same))
-none_of sets old new (Err fault) same = same
-
--- a record is known by its kind, and with that what its body gives
-
-pub routes_by_kind : (peers : Option ℕ) (at : At) (kind : RecordKind) (body : List ℕ) → routes_of peers (record_as at kind body) ≡ routes_in (Some kind) peers body
-routes_by_kind peers at kind body = ap (λ k. routes_in k peers body) (kind_again kind)
-
-pub peer_table_taken : (sets : Sets) (old : Taken) (body : List ℕ) (table : Peers) → Ok table ≡ peers_of body → TakesRead sets old (of_peer_table_read (peers_of body)) old
-peer_table_taken sets old body table read = ([], ap of_peer_table_read (sym read), no_entry sets old)
+pub none_of : (wanted : Wanted) (old new : Taken) (read : Result (List Route) RibFault) → new ≡ old → TakesSomeRead wanted old read new
+none_of wanted old new (Ok routes) same = (0, omega arith, no_entry wanted.sets old ∙ ap (λ (t : Taken). Ok t) (sym same))
+none_of wanted old new (Err fault) same = same

@@ -1,5 +1,5 @@
 -- The routes of one record, each merged before the first of them is taken in, and judged only where its path wasn't found.
-use Rattle.std.specs.Prelude.{◌≡◌, ℕ, true, List, [], ◌∷◌, length, map, slice_get, Option, Some, Result, Ok, Err}
+use Rattle.std.specs.Prelude.{◌≡◌, ℕ, Bool, true, false, List, [], ◌∷◌, ◌++◌, length, map, filter, slice_get, Option, Some, Result, Ok, Err}
 use Rattle.path_clean.specs.declared.cleaned.Sets.{Sets}
 use Rattle.path_clean.specs.declared.cleaned.Cause.{Cause}
 use Rattle.path_clean.specs.declared.cleaned.Cleaned.{Cleaned}
@@ -15,7 +15,8 @@ use Rattle.rib_bodies.specs.declared.rib.Entry.{Entry}
 use Rattle.dump_read.specs.declared.records.Unread.{Unread}
 use Rattle.dump_read.specs.declared.records.Unread.TheVariants as unread
 use Rattle.dump_read.specs.declared.taking.Untaken.TheVariants as untaken
-use Rattle.dump_read.specs.Routes.{Route, of_entries}
+use Rattle.dump_read.specs.Routes.{Route}
+use Rattle.path_segments.specs.declared.as_path.Width.TheVariants.{Four}
 use Rattle.dump_read.specs.Taking.{Taken, take_cleaned, take_routes, Takes, TakesSome}
 
 -- what the routes were merged to, and at which places in a table the paths of the first of them were found
@@ -63,12 +64,21 @@ merged sets routes = map (λ route. merged_of sets route.width route.attrs) rout
 abbrev pub AreOf : Sets → List Route → Batched → Type 0
 AreOf sets routes batch = batch.routes ≡ merged sets routes
 
--- the entries that were read were merged to what stands in the batch
-abbrev pub MergesRead : Sets → Result (List Entry) RibFault → Batched → Type 0
-MergesRead sets read batch = (entries : List Entry) × (read ≡ Ok entries) × AreOf sets (of_entries entries) batch
+-- what each of the entries is merged to
+abbrev pub merged_entries : Sets → List Entry → List Cleaned
+merged_entries sets entries = map (λ entry. merged_of sets Four entry.attrs) entries
+
+-- an entry was merged behind the others, if its route counts
+abbrev pub MergesOne : Sets → Bool → Entry → (old new : Batched) → Type 0
+MergesOne sets true entry old new = new.routes ≡ old.routes ++ merged_of sets Four entry.attrs ∷ []
+MergesOne sets false entry old new = new.routes ≡ old.routes
+
+-- the entries that were read, those of them that count, were merged to what stands in the batch
+abbrev pub MergesRead : Sets → (Entry → Bool) → Result (List Entry) RibFault → Batched → Type 0
+MergesRead sets test read batch = (entries : List Entry) × (read ≡ Ok entries) × (batch.routes ≡ merged_entries sets (filter test entries))
 
 -- the fault is that of the reading, and no limit is met; memory may always run out
-abbrev pub IsUnmerged : Result (List Entry) RibFault → Unread → Type 0
+abbrev pub IsUnmerged : {A : Type 0} → Result A RibFault → Unread → Type 0
 IsUnmerged read (unread.Fault fault) = read ≡ Err fault
 IsUnmerged read (unread.Untaken (untaken.Limit kind)) = ⊥
 IsUnmerged read (unread.Untaken untaken.NoMemory) = Unit {0}

@@ -11,7 +11,8 @@ use Rattle.mrt_header.specs.declared.record_kind.RecordKind.{RecordKind}
 use Rattle.mrt_header.specs.declared.record_kind.RecordKind.TheVariants.{TableDump, PeerTable, Rib}
 use Rattle.dump_read.specs.declared.taking.Taken.{Taken}
 use Rattle.dump_read.specs.Routes.{Route, routes_of}
-use Rattle.dump_read.specs.Reading.{file_reading}
+use Rattle.dump_read.specs.Wanted.{Wanted, which_count, file_routes}
+use Rattle.rib_bodies.specs.declared.peers.Peer.{Peer}
 pub use Rattle.dump_read.specs.declared.file_counts.FileCounts.{FileCounts}
 
 -- how many peers a body lists: a peer table its entries, and all others none
@@ -24,17 +25,17 @@ listed_in None body = 0
 abbrev pub peers_listed : Record → ℕ
 peers_listed r = listed_in (kind_of r.kind r.subtype) r.body
 
--- what a file of these octets holds
-abbrev pub file_counts : List ℕ → FileCounts
-file_counts octets = record {
+-- what a file of these octets holds, where these routes are wanted
+abbrev pub file_counts : Wanted → List ℕ → FileCounts
+file_counts wanted octets = record {
   records = records_in octets;
   peers = capped (sum_by peers_listed (cut octets).records);
-  routes = capped (length (file_reading octets).routes);
+  routes = capped (length (file_routes wanted octets));
 }
 
 -- the same behind what was taken in of the files before
-abbrev pub with_file : List ℕ → Taken → Taken
-with_file octets taken = record taken { files = taken.files ++ file_counts octets ∷ [] }
+abbrev pub with_file : Wanted → List ℕ → Taken → Taken
+with_file wanted octets taken = record taken { files = taken.files ++ file_counts wanted octets ∷ [] }
 
 -- ---- several files
 
@@ -60,14 +61,14 @@ together files = with_all no_file_counts files
 
 -- ---- one record
 
--- how many routes were read
-abbrev pub many : Result (List Route) RibFault → ℕ
-many (Ok routes) = length routes
-many (Err fault) = 0
+-- how many of the routes that were read count
+abbrev pub many : Wanted → Result (List Route) RibFault → ℕ
+many wanted (Ok routes) = length (which_count wanted routes)
+many wanted (Err fault) = 0
 
--- the counts with the peer entries and the routes of a record, where the last peer table before it has so many peers
-abbrev pub with_one : Option ℕ → Record → FileCounts → FileCounts
-with_one peers r file = record file {
+-- the counts with the peer entries and the routes of a record, where the last peer table before it names these peers
+abbrev pub with_one : Wanted → Option (List Peer) → Record → FileCounts → FileCounts
+with_one wanted peers r file = record file {
   peers = capped (file.peers + peers_listed r);
-  routes = capped (file.routes + many (routes_of peers r));
+  routes = capped (file.routes + many wanted (routes_of peers r));
 }

@@ -13,7 +13,7 @@ use Rattle.path_table.specs.Table.{distinct_paths, counted}
 use Rattle.dump_read.specs.declared.error.LimitKind.{LimitKind}
 use Rattle.dump_read.specs.declared.error.LimitKind.TheVariants.{Paths, Numbers, Bytes}
 use Rattle.dump_read.specs.Routes.{Route}
-use Rattle.dump_read.specs.Reading.{file_reading}
+use Rattle.dump_read.specs.Wanted.{Wanted, file_routes}
 use Rattle.dump_read.specs.Taking.{Taken, take_routes, Takes}
 use Rattle.dump_read.specs.Seen.{of_file}
 use Rattle.dump_read.specs.Batches.{cleaned}
@@ -61,21 +61,21 @@ TakingOnLaw =
 
 -- ---- dumps
 
--- the routes of files of these octets, in order
-abbrev pub routes_in_files : List (List ℕ) → List Route
-routes_in_files files = flat_map (λ octets. (file_reading octets).routes) files
+-- the routes of files of these octets that count, in order
+abbrev pub routes_in_files : Wanted → List (List ℕ) → List Route
+routes_in_files wanted files = flat_map (file_routes wanted) files
 
 -- of a dump that is there and is read to its end, behind others
-pub record IsOneMore (sets : Sets) (before : List (List ℕ)) (file : Option (List ℕ)) (new : Taken) : Type 0 where
+pub record IsOneMore (wanted : Wanted) (before : List (List ℕ)) (file : Option (List ℕ)) (new : Taken) : Type 0 where
   pub octets : List ℕ
   pub there : file ≡ Some octets
-  pub taken : IsTakenOf sets (routes_in_files (before ++ octets ∷ [])) new
+  pub taken : IsTakenOf wanted.sets (routes_in_files wanted (before ++ octets ∷ [])) new
 
--- before the first dump nothing is taken in, and behind each all routes of the dumps so far
+-- before the first dump nothing is taken in, and behind each all routes of the dumps so far that count
 pub record DumpLaw : Type 0 where
-  pub first : (sets : Sets) (old : Taken) → IsEmpty old → IsTakenOf sets (routes_in_files []) old
-  pub further : (sets : Sets) (dump : ℕ) (before : List (List ℕ)) (file : Option (List ℕ)) (old new : Taken)
-      → IsTakenOf sets (routes_in_files before) old → of_file sets dump old file ≡ Ok new → IsOneMore sets before file new
+  pub first : (wanted : Wanted) (old : Taken) → IsEmpty old → IsTakenOf wanted.sets (routes_in_files wanted []) old
+  pub further : (wanted : Wanted) (dump : ℕ) (before : List (List ℕ)) (file : Option (List ℕ)) (old new : Taken)
+      → IsTakenOf wanted.sets (routes_in_files wanted before) old → of_file wanted dump old file ≡ Ok new → IsOneMore wanted before file new
 
 -- ---- limits
 

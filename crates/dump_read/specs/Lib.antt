@@ -1,5 +1,6 @@
 pub mod Routes
 pub mod Reading
+pub mod Wanted
 pub mod Taking
 pub mod Files
 pub mod FileLaws
@@ -7,4 +8,5 @@ pub mod Seen
 pub mod Refusals
 pub mod Reach
 pub mod Batches
+pub mod LastPeers
 pub mod Laws

@@ -1,6 +1,7 @@
 -- The routes of a file, in order, and how its reading ends.
 use Rattle.std.specs.Prelude.{ℕ, List, [], ◌∷◌, ◌++◌, Option, None, Result, Ok, Err}
 use Rattle.path_attrs.specs.declared.fault.RibFault.{RibFault}
+use Rattle.rib_bodies.specs.declared.peers.Peer.{Peer}
 use Rattle.mrt_frame.specs.declared.header.At.{At}
 use Rattle.mrt_frame.specs.Records.{Record, Cut, RecordsEnd, Well, HeadCut, TooManyBytes, Oversize, BodyCut, cut}
 use Rattle.dump_read.specs.declared.error.Fault.{Fault}
@@ -30,12 +31,12 @@ routes_onto at (Ok routes) rest = record { routes = routes ++ rest.routes; end =
 routes_onto at (Err broken) rest = record { routes = []; end = Broken at (fault.Rib broken) }
 
 -- the routes of records, each read with the last peer table before it
-unfoldable pub reading_of : Option ℕ → List Record → RecordsEnd → Reading
+unfoldable pub reading_of : Option (List Peer) → List Record → RecordsEnd → Reading
 reading_of peers [] end = record { routes = []; end = file_end end }
 reading_of peers (r ∷ records) end = routes_onto r.at (routes_of peers r) (reading_of (peers_behind peers r) records end)
 
--- from records on, where the last peer table before them has so many peers
-abbrev pub reading_from : Option ℕ → Cut → Reading
+-- from records on, where the last peer table before them names these peers
+abbrev pub reading_from : Option (List Peer) → Cut → Reading
 reading_from peers c = reading_of peers c.records c.end
 
 -- a file starts without a peer table

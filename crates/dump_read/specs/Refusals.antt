@@ -1,5 +1,5 @@
 -- Why routes were not taken in.
-use Rattle.std.specs.Prelude.{◌≡◌, ℕ, List, Option, option_map, Result, Ok, Err}
+use Rattle.std.specs.Prelude.{◌≡◌, ℕ, List, Result, Ok, Err}
 use Rattle.path_table.specs.declared.table.AddRefused.{AddRefused}
 use Rattle.path_table.specs.declared.table.AddRefused.TheVariants.{TooManyPaths, TooManyNumbers, NoMemory}
 use Rattle.dump_read.specs.declared.error.LimitKind.{LimitKind}
@@ -17,8 +17,7 @@ use Rattle.dump_read.specs.declared.records.Unread.TheVariants as unread
 use Rattle.dump_read.specs.Routes.{Route}
 use Rattle.dump_read.specs.Taking.{Taken, take_routes, Takes, TakesSome}
 use Rattle.path_attrs.specs.declared.fault.RibFault.{RibFault}
-use Rattle.path_clean.specs.declared.cleaned.Sets.{Sets}
-use Rattle.rib_bodies.specs.declared.peer_table.Peers.{Peers}
+use Rattle.dump_read.specs.Wanted.{Wanted, which_count}
 
 abbrev pub of_add : AddRefused → Untaken
 of_add TooManyPaths = untaken.Limit Paths
@@ -30,25 +29,21 @@ abbrev pub IsLimit : Result Taken LimitKind → Untaken → Type 0
 IsLimit taking (untaken.Limit kind) = taking ≡ Err kind
 IsLimit taking untaken.NoMemory = Unit {0}
 
--- how many peers a peer table has, if there is one
-abbrev pub peers_in : Option Peers → Option ℕ
-peers_in peers = option_map (λ table. table.count) peers
+-- the routes that were read, those that count, were taken in
+abbrev pub TakesRead : Wanted → Taken → Result (List Route) RibFault → Taken → Type 0
+TakesRead wanted old read new = (routes : List Route) × (read ≡ Ok routes) × Takes wanted.sets old (which_count wanted routes) new
 
--- the routes that were read were taken in
-abbrev pub TakesRead : Sets → Taken → Result (List Route) RibFault → Taken → Type 0
-TakesRead sets old read new = (routes : List Route) × (read ≡ Ok routes) × Takes sets old routes new
-
--- of the routes that were read some of the first were taken in, and none where there is a fault
-abbrev pub TakesSomeRead : Sets → Taken → Result (List Route) RibFault → Taken → Type 0
-TakesSomeRead sets old (Ok routes) new = TakesSome sets old routes new
-TakesSomeRead sets old (Err fault) new = new ≡ old
+-- of the routes that were read and count some of the first were taken in, and none where there is a fault
+abbrev pub TakesSomeRead : Wanted → Taken → Result (List Route) RibFault → Taken → Type 0
+TakesSomeRead wanted old (Ok routes) new = TakesSome wanted.sets old (which_count wanted routes) new
+TakesSomeRead wanted old (Err fault) new = new ≡ old
 
 -- the fault is that of the reading, the limit that of the taking; memory may always run out
-abbrev pub IsUnread : Sets → Taken → Result (List Route) RibFault → Unread → Type 0
-IsUnread sets old read (unread.Fault fault) = read ≡ Err fault
-IsUnread sets old read (unread.Untaken (untaken.Limit kind)) =
-    (routes : List Route) × (read ≡ Ok routes) × (take_routes sets old routes ≡ Err kind)
-IsUnread sets old read (unread.Untaken untaken.NoMemory) = Unit {0}
+abbrev pub IsUnread : Wanted → Taken → Result (List Route) RibFault → Unread → Type 0
+IsUnread wanted old read (unread.Fault fault) = read ≡ Err fault
+IsUnread wanted old read (unread.Untaken (untaken.Limit kind)) =
+    (routes : List Route) × (read ≡ Ok routes) × (take_routes wanted.sets old (which_count wanted routes) ≡ Err kind)
+IsUnread wanted old read (unread.Untaken untaken.NoMemory) = Unit {0}
 
 -- the error of a dump that an error of its records is
 abbrev pub of_frame : ℕ → FrameError → DumpError

@@ -2,7 +2,7 @@
 -- before any of its routes, and a limit at the route that meets it.
 use Rattle.std.specs.Prelude.{◌≡◌, ℕ, List, Option, Some, None, Result, Ok, Err}
 use Rattle.path_attrs.specs.Fields.{◌>>=◌}
-use Rattle.path_clean.specs.declared.cleaned.Sets.{Sets}
+use Rattle.dump_read.specs.Wanted.{Wanted, file_routes}
 use Rattle.dump_read.specs.declared.error.Place.{Place}
 use Rattle.dump_read.specs.declared.error.Fault.{Fault}
 use Rattle.dump_read.specs.declared.error.LimitKind.{LimitKind}
@@ -31,16 +31,16 @@ abbrev pub of_taking : ℕ → Result Taken LimitKind → Result Taken DumpsEnd
 of_taking dump (Ok taken) = Ok taken
 of_taking dump (Err kind) = Err (Limit kind dump)
 
--- the routes of the file, and then its end; where it is read to its end, what it holds is counted
-abbrev pub of_octets : Sets → ℕ → Taken → List ℕ → Result Taken DumpsEnd
-of_octets sets dump taken octets =
-    of_taking dump (take_routes sets taken (file_reading octets).routes) >>= λ all.
-    of_end dump (file_reading octets).end (with_file octets all)
+-- the routes of the file that count, and then its end; where it is read to its end, what it holds is counted
+abbrev pub of_octets : Wanted → ℕ → Taken → List ℕ → Result Taken DumpsEnd
+of_octets wanted dump taken octets =
+    of_taking dump (take_routes wanted.sets taken (file_routes wanted octets)) >>= λ all.
+    of_end dump (file_reading octets).end (with_file wanted octets all)
 
 -- the same of a file that may be absent
-abbrev pub of_file : Sets → ℕ → Taken → Option (List ℕ) → Result Taken DumpsEnd
-of_file sets dump taken None = Err (Absent dump)
-of_file sets dump taken (Some octets) = of_octets sets dump taken octets
+abbrev pub of_file : Wanted → ℕ → Taken → Option (List ℕ) → Result Taken DumpsEnd
+of_file wanted dump taken None = Err (Absent dump)
+of_file wanted dump taken (Some octets) = of_octets wanted dump taken octets
 
 -- the end that an error names
 abbrev pub end_named : ℕ → DumpError → Option DumpsEnd
@@ -50,10 +50,10 @@ end_named dump error.ReadFault = None
 end_named dump error.NoMemory = None
 
 -- this is what some file gives that is read to its end
-abbrev pub IsOfSomeFile : Sets → ℕ → (old new : Taken) → Type 0
-IsOfSomeFile sets dump old new = (octets : List ℕ) × (of_octets sets dump old octets ≡ Ok new)
+abbrev pub IsOfSomeFile : Wanted → ℕ → (old new : Taken) → Type 0
+IsOfSomeFile wanted dump old new = (octets : List ℕ) × (of_octets wanted dump old octets ≡ Ok new)
 
 -- the same before what the file holds is kept, which is this
-abbrev pub IsOfSomeHolding : Sets → ℕ → (old new : Taken) → FileCounts → Type 0
-IsOfSomeHolding sets dump old new file =
-    (octets : List ℕ) × (of_octets sets dump old octets ≡ Ok (with_file octets new)) × (file ≡ file_counts octets)
+abbrev pub IsOfSomeHolding : Wanted → ℕ → (old new : Taken) → FileCounts → Type 0
+IsOfSomeHolding wanted dump old new file =
+    (octets : List ℕ) × (of_octets wanted dump old octets ≡ Ok (with_file wanted octets new)) × (file ≡ file_counts wanted octets)

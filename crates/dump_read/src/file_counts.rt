@@ -14,7 +14,7 @@ pub struct FileCounts {
     pub records: RecordCounts,
     /// The peer entries of its peer tables.
     pub peers: u64,
-    /// The routes of its records that are read.
+    /// The routes of its records that are read, those that count.
     pub routes: u64,
 }
 

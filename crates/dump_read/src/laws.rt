@@ -1,6 +1,7 @@
 //! The laws of what is taken in and of what files hold. Each is the contract of a function that does nothing.
 
 ghost use Rattle.dump_read.specs.FileLaws.{TogetherLaw};
+ghost use Rattle.dump_read.specs.Wanted.{AllCountLaw};
 ghost use Rattle.dump_read.specs.Laws.{TakingLaw, TakingOnLaw, DumpLaw, FitLaw, LimitLaw};
 
 /// What routes that are taken in come to: the distinct paths to which they are cleaned, in order of first appearance, each with how
@@ -10,9 +11,15 @@ pub fn taking_law()
     ensures taking_on { TakingOnLaw }
 {}
 
-/// The same of dumps that are read one after the other: behind each, all routes of the dumps so far are taken in.
+/// The same of dumps that are read one after the other: behind each, all routes of the dumps so far that count are taken
+/// in.
 pub fn dump_law()
     ensures { DumpLaw }
+{}
+
+/// Where all routes are wanted, all count.
+pub fn all_count_law()
+    ensures { AllCountLaw }
 {}
 
 /// A limit is answered where the first routes are taken in, and the path of the next one is new and would pass it. Routes are all

@@ -4,13 +4,16 @@
 mod batch;
 mod error;
 mod file_counts;
+mod last_peers;
 mod laws;
 mod reading;
 mod records;
 mod taking;
+mod wanted;
 
 pub use error::{DumpError, Fault, LimitKind, Place};
 pub use file_counts::FileCounts;
-pub use laws::{dump_law, limit_law, taking_law, together_law};
+pub use laws::{all_count_law, dump_law, limit_law, taking_law, together_law};
 pub use reading::read_dump;
 pub use taking::Taken;
+pub use wanted::{Families, Wanted};

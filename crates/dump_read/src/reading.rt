@@ -6,7 +6,7 @@ ghost use Rattle.tor_io.specs.Contents.{LacksFile};
 ghost use Rattle.mrt_frame.specs.Records.{start};
 ghost use Rattle.mrt_frame.specs.Reader.{shelf_of, reference_of, next_place, is_live};
 ghost use Rattle.dump_read.specs.Files.{no_file_counts, file_counts, with_file};
-ghost use Rattle.dump_read.specs.Reading.{file_reading};
+ghost use Rattle.dump_read.specs.Wanted.{file_routes};
 ghost use Rattle.dump_read.specs.Taking.{TakesSome};
 ghost use Rattle.dump_read.specs.Seen.{of_octets, of_file, end_named, IsOfSomeFile, IsOfSomeHolding};
 ghost use Rattle.dump_read.specs.Refusals.{of_frame, of_unread, IsOfDump};
@@ -16,10 +16,11 @@ ghost use Rattle.dump_read.specs.Reach.{ReadsBounded, StopsBounded, LeavesRestOf
 use crate::batch::Batch;
 use crate::error::{DumpError, Fault, LimitKind, Place};
 use crate::file_counts::FileCounts;
+use crate::last_peers::LastPeers;
 use crate::records::{Unread, take_record};
 use crate::taking::{Taken, Untaken};
+use crate::wanted::Wanted;
 use mrt_frame::{At, FrameError, Frames};
-use path_clean::Sets;
 use std::alloc::Global;
 use tor_arena::NoMemory;
 use tor_io::{OpenRefused, Shelf};
@@ -61,26 +62,28 @@ fn keep_file(taken: &mut Taken, file: FileCounts) -> Result<(), DumpError>
     }
 }
 
-// Takes in the routes of all records of a file, before the first of which the reader stands, and counts what the file holds.
+// Takes in the routes of all records of a file that count, before the first of which the reader stands, and counts what the file holds.
 fn take_records<H: Shelf>(
     alloc: Global,
     dump: u64,
-    sets: Sets,
+    wanted: &Wanted,
     frames: &mut Frames<'_, H>,
+    peers: &mut LastPeers,
     batch: &mut Batch,
     taken: &mut Taken,
     file: &mut FileCounts,
 ) -> Result<(), DumpError>
+    requires first { peers.old ≡ record { table = None; marks = [] } }
     requires live { is_live frames.old ≡ true }
     requires start { next_place frames.old ≡ start }
     requires none { file.old ≡ no_file_counts }
     ensures read { OnOk result (IfSome (H.left (shelf_of frames.old)) (λ octets.
-        of_octets sets dump taken.old octets ≡ Ok (with_file octets taken.new))) }
-    ensures counted { OnOk result (IfSome (H.left (shelf_of frames.old)) (λ octets. file.new ≡ file_counts octets)) }
+        of_octets wanted.now dump taken.old octets ≡ Ok (with_file wanted.now octets taken.new))) }
+    ensures counted { OnOk result (IfSome (H.left (shelf_of frames.old)) (λ octets. file.new ≡ file_counts wanted.now octets)) }
     ensures stopped { IfErr result (λ e. IfSome (end_named dump e) (λ end. IfSome (H.left (shelf_of frames.old)) (λ octets.
-        of_octets sets dump taken.old octets ≡ Err end))) }
-    ensures some_file { OnOk result (IsOfSomeHolding sets dump taken.old taken.new file.new) }
-    ensures some { IfSome (H.left (shelf_of frames.old)) (λ octets. TakesSome sets taken.old (file_reading octets).routes taken.new) }
+        of_octets wanted.now dump taken.old octets ≡ Err end))) }
+    ensures some_file { OnOk result (IsOfSomeHolding wanted.now dump taken.old taken.new file.new) }
+    ensures some { IfSome (H.left (shelf_of frames.old)) (λ octets. TakesSome wanted.now.sets taken.old (file_routes wanted.now octets) taken.new) }
     ensures place { IfErr result (IsOfDump dump) }
     ensures at_end { OnOk result (IsAtEnd (H.left (shelf_of frames.new))) }
     ensures bounded { ReadsUpTo 0 max_read (H.left (shelf_of frames.old)) (H.left (shelf_of frames.new)) }
@@ -96,37 +99,35 @@ fn take_records<H: Shelf>(
     ensures steady { H.steady (shelf_of frames.old) → H.steady (shelf_of frames.new) }
     ensures steady_reads { H.steady (shelf_of frames.old) → result ≢ Err DumpError.ReadFault }
 {
-    let mut peers = None;
     'records: loop {
         let found = match frames.next(&mut file.records) {
             Ok(Some(found)) => found,
             Ok(None) => return Ok(()),
             Err(error) => return Err(of_frame(dump, error)),
         };
-        match take_record(alloc, sets, &found, peers, batch, taken, file) {
-            Ok(behind) => peers = behind,
-            Err(unread) => return Err(of_unread(dump, found.at, unread)),
+        if let Err(unread) = take_record(alloc, wanted, &found, peers, batch, taken, file) {
+            return Err(of_unread(dump, found.at, unread));
         }
     }
 }
 
-// Takes in the routes of the open file, and counts what it holds.
+// Takes in the routes of the open file that count, and counts what it holds.
 fn take_file<H: Shelf>(
     alloc: Global,
     shelf: &mut H,
     dump: u64,
-    sets: Sets,
+    wanted: &Wanted,
     taken: &mut Taken,
     file: &mut FileCounts,
 ) -> Result<(), DumpError>
     requires none { file.old ≡ no_file_counts }
     ensures read { OnOk result (IfSome (H.left shelf.old) (λ octets.
-        of_octets sets dump taken.old octets ≡ Ok (with_file octets taken.new))) }
-    ensures counted { OnOk result (IfSome (H.left shelf.old) (λ octets. file.new ≡ file_counts octets)) }
+        of_octets wanted.now dump taken.old octets ≡ Ok (with_file wanted.now octets taken.new))) }
+    ensures counted { OnOk result (IfSome (H.left shelf.old) (λ octets. file.new ≡ file_counts wanted.now octets)) }
     ensures stopped { IfErr result (λ e. IfSome (end_named dump e) (λ end. IfSome (H.left shelf.old) (λ octets.
-        of_octets sets dump taken.old octets ≡ Err end))) }
-    ensures some_file { OnOk result (IsOfSomeHolding sets dump taken.old taken.new file.new) }
-    ensures some { IfSome (H.left shelf.old) (λ octets. TakesSome sets taken.old (file_reading octets).routes taken.new) }
+        of_octets wanted.now dump taken.old octets ≡ Err end))) }
+    ensures some_file { OnOk result (IsOfSomeHolding wanted.now dump taken.old taken.new file.new) }
+    ensures some { IfSome (H.left shelf.old) (λ octets. TakesSome wanted.now.sets taken.old (file_routes wanted.now octets) taken.new) }
     ensures place { IfErr result (IsOfDump dump) }
     ensures at_end { OnOk result (IsAtEnd (H.left shelf.new)) }
     ensures bounded { ReadsUpTo 0 max_read (H.left shelf.old) (H.left shelf.new) }
@@ -140,26 +141,36 @@ fn take_file<H: Shelf>(
     ensures steady { H.steady shelf.old → H.steady shelf.new }
     ensures steady_reads { H.steady shelf.old → result ≢ Err DumpError.ReadFault }
 {
+    let mut peers = LastPeers::new(alloc);
     let mut batch = Batch::new(alloc);
     let mut frames = Frames::over(alloc, shelf);
-    take_records(alloc, dump, sets, &mut frames, &mut batch, taken, file)
+    take_records(
+        alloc,
+        dump,
+        wanted,
+        &mut frames,
+        &mut peers,
+        &mut batch,
+        taken,
+        file,
+    )
 }
 
-// Takes in the routes of the open file, and at its end what it holds.
+// Takes in the routes of the open file that count, and at its end what it holds.
 fn read_records<H: Shelf>(
     alloc: Global,
     shelf: &mut H,
     dump: u64,
-    sets: Sets,
+    wanted: &Wanted,
     taken: &mut Taken,
 ) -> Result<(), DumpError>
     ensures read { OnOk result (IfSome (H.left shelf.old) (λ octets.
-        of_octets sets dump taken.old octets ≡ Ok taken.new)) }
+        of_octets wanted.now dump taken.old octets ≡ Ok taken.new)) }
     ensures stopped { IfErr result (λ e. IfSome (end_named dump e) (λ end. IfSome (H.left shelf.old) (λ octets.
-        of_octets sets dump taken.old octets ≡ Err end))) }
-    ensures some_file { OnOk result (IsOfSomeFile sets dump taken.old taken.new) }
+        of_octets wanted.now dump taken.old octets ≡ Err end))) }
+    ensures some_file { OnOk result (IsOfSomeFile wanted.now dump taken.old taken.new) }
     ensures some { OnErr result (IfSome (H.left shelf.old) (λ octets.
-        TakesSome sets taken.old (file_reading octets).routes taken.new)) }
+        TakesSome wanted.now.sets taken.old (file_routes wanted.now octets) taken.new)) }
     ensures place { IfErr result (IsOfDump dump) }
     ensures at_end { OnOk result (IsAtEnd (H.left shelf.new)) }
     ensures bounded { ReadsUpTo 0 max_read (H.left shelf.old) (H.left shelf.new) }
@@ -174,34 +185,34 @@ fn read_records<H: Shelf>(
     ensures steady_reads { H.steady shelf.old → result ≢ Err DumpError.ReadFault }
 {
     let mut file = FileCounts::new(alloc);
-    if let Err(error) = take_file(alloc, shelf, dump, sets, taken, &mut file) {
+    if let Err(error) = take_file(alloc, shelf, dump, wanted, taken, &mut file) {
         drop(file);
         return Err(error);
     }
     keep_file(taken, file)
 }
 
-/// Reads a dump, and takes in its routes in order, and behind those what the file holds. `dump` is its number, from 1.
+/// Reads a dump, and takes in its routes that count in order, and behind those what the file holds. `dump` is its number, from 1.
 ///
 /// Malformed and Limit: the first end in the order of reading. ReadFault: a call on the shelf failed, as an open does at
-/// a name that isn't there. NoMemory: memory ran out. After an error some of the first routes of the file are
-/// taken in, and none where the name isn't there. What the dumps come to that were read one after the other is said by `dump_law`.
+/// a name that isn't there. NoMemory: memory ran out. After an error some of the first of these
+/// routes are taken in, and none where the name isn't there. What the dumps come to that were read one after the other is said by `dump_law`.
 pub fn read_dump<H: Shelf>(
     alloc: Global,
     shelf: &mut H,
     name: &str,
     dump: u64,
-    sets: Sets,
+    wanted: &Wanted,
     taken: &mut Taken,
 ) -> Result<(), DumpError>
     // What is taken in, and where the reading ends; at Ok it is what some file gives, also where nothing is known of the shelf's.
     ensures read { OnOk result (IfSome (H.files shelf.old) (λ files.
-        of_file sets dump taken.old (files name.now) ≡ Ok taken.new)) }
+        of_file wanted.now dump taken.old (files name.now) ≡ Ok taken.new)) }
     ensures stopped { IfErr result (λ e. IfSome (end_named dump e) (λ end. IfSome (H.files shelf.old) (λ files.
-        of_file sets dump taken.old (files name.now) ≡ Err end))) }
-    ensures some_file { OnOk result (IsOfSomeFile sets dump taken.old taken.new) }
+        of_file wanted.now dump taken.old (files name.now) ≡ Err end))) }
+    ensures some_file { OnOk result (IsOfSomeFile wanted.now dump taken.old taken.new) }
     ensures some { OnErr result (IfSome (H.files shelf.old) (λ files. IfSome (files name.now) (λ octets.
-        TakesSome sets taken.old (file_reading octets).routes taken.new))) }
+        TakesSome wanted.now.sets taken.old (file_routes wanted.now octets) taken.new))) }
     ensures absent { IfSome (H.files shelf.old) (λ files. files name.now ≡ None → taken.new ≡ taken.old) }
     ensures place { IfErr result (IsOfDump dump) }
 
@@ -220,7 +231,7 @@ pub fn read_dump<H: Shelf>(
     ensures steady_failed { H.steady shelf.old → IsErrOf result DumpError.ReadFault → LacksFile (H.files shelf.old) name.now }
 {
     match shelf.open_file(name) {
-        Ok(()) => read_records(alloc, shelf, dump, sets, taken),
+        Ok(()) => read_records(alloc, shelf, dump, wanted, taken),
         Err(OpenRefused::Failed) => Err(DumpError::ReadFault),
         Err(OpenRefused::NoMemory) => Err(DumpError::NoMemory),
     }

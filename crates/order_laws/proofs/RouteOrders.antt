@@ -20,7 +20,8 @@ use Rattle.path_order.proofs.RiseLemmas.{Few, few_moved, moved_rows, same_order}
 use Rattle.path_order.proofs.CountedLemmas.{counted_few, counted_moved}
 use Rattle.dump_read.specs.declared.error.LimitKind.{LimitKind}
 use Rattle.dump_read.specs.Routes.{Route}
-use Rattle.dump_read.specs.Reading.{file_reading}
+use Rattle.dump_read.specs.declared.wanted.Wanted.{Wanted}
+use Rattle.dump_read.specs.Wanted.{file_routes}
 use Rattle.dump_read.specs.Batches.{cleaned}
 use Rattle.dump_read.specs.declared.taking.Taken.{Taken}
 use Rattle.dump_read.specs.Taking.{take_routes, Takes}
@@ -63,26 +64,29 @@ moved_routes sets routes others moved = record {
   alike = λ asked. sym (sum_by-IsPermutation (λ c. cond (asked c) 1 0) (cleaned sets routes) (cleaned sets others) (IsPermutation-map (clean sets) routes others moved));
 }
 
-abbrev count_on : Sets → (Cleaned → Bool) → List ℕ → ℕ
-count_on sets asked octets = count_by asked (cleaned sets (file_reading octets).routes)
+abbrev count_on : Wanted → (Cleaned → Bool) → List ℕ → ℕ
+count_on wanted asked octets = count_by asked (cleaned wanted.sets (file_routes wanted octets))
 
-over_dumps : (sets : Sets) (asked : Cleaned → Bool) (dumps : List (List ℕ)) → count_by asked (cleaned sets (routes_in_files dumps)) ≡ sum_by (count_on sets asked) dumps
-over_dumps sets asked [] = refl
-over_dumps sets asked (octets ∷ dumps) =
-    ap (count_by asked) (map-append (clean sets) (file_reading octets).routes (routes_in_files dumps)) ∙
-    count-append asked (cleaned sets (file_reading octets).routes) (cleaned sets (routes_in_files dumps)) ∙
-    ap (λ n. count_on sets asked octets + n) (over_dumps sets asked dumps) ∙ sym (sum_by-cons (count_on sets asked) octets dumps)
+over_dumps : (wanted : Wanted) (asked : Cleaned → Bool) (dumps : List (List ℕ))
+    → count_by asked (cleaned wanted.sets (routes_in_files wanted dumps)) ≡ sum_by (count_on wanted asked) dumps
+over_dumps wanted asked [] = refl
+over_dumps wanted asked (octets ∷ dumps) =
+    ap (count_by asked) (map-append (clean wanted.sets) (file_routes wanted octets) (routes_in_files wanted dumps)) ∙
+    count-append asked (cleaned wanted.sets (file_routes wanted octets)) (cleaned wanted.sets (routes_in_files wanted dumps)) ∙
+    ap (λ n. count_on wanted asked octets + n) (over_dumps wanted asked dumps) ∙ sym (sum_by-cons (count_on wanted asked) octets dumps)
 
-moved_dumps : (sets : Sets) (dumps others : List (List ℕ)) → IsPermutation dumps others → AreCleanedAlike sets (routes_in_files dumps) (routes_in_files others)
-moved_dumps sets dumps others moved = record {
+moved_dumps : (wanted : Wanted) (dumps others : List (List ℕ)) → IsPermutation dumps others
+    → AreCleanedAlike wanted.sets (routes_in_files wanted dumps) (routes_in_files wanted others)
+moved_dumps wanted dumps others moved = record {
   alike = λ asked.
-      over_dumps sets asked dumps ∙ sym (sum_by-IsPermutation (count_on sets asked) dumps others moved) ∙ sym (over_dumps sets asked others);
+      over_dumps wanted asked dumps ∙ sym (sum_by-IsPermutation (count_on wanted asked) dumps others moved) ∙ sym (over_dumps wanted asked others);
 }
 
 pub moved_law : MovedRoutesLaw
 moved_law = record {
   routes = λ sets routes others moved. gives sets routes others (moved_routes sets routes others moved);
-  dumps = λ sets dumps others moved. gives sets (routes_in_files dumps) (routes_in_files others) (moved_dumps sets dumps others moved);
+  dumps = λ wanted dumps others moved.
+      gives wanted.sets (routes_in_files wanted dumps) (routes_in_files wanted others) (moved_dumps wanted dumps others moved);
 }
 
 -- ---- what is taken in

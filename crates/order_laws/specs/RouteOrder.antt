@@ -10,6 +10,7 @@ use Rattle.path_order.specs.Orders.{ordered}
 use Rattle.path_order.specs.Laws.{StandAsOften}
 use Rattle.dump_read.specs.declared.error.LimitKind.{LimitKind}
 use Rattle.dump_read.specs.Routes.{Route}
+use Rattle.dump_read.specs.declared.wanted.Wanted.{Wanted}
 use Rattle.dump_read.specs.Laws.{cleaned_paths, set_aside, routes_in_files, IsTakenOf, IsEmpty, Fit}
 use Rattle.dump_read.specs.declared.taking.Taken.{Taken}
 use Rattle.dump_read.specs.Taking.{take_routes, Takes}
@@ -19,9 +20,9 @@ pub record GiveSame (sets : Sets) (routes others : List Route) : Type 0 where
   pub paths : StandAsOften (cleaned_paths sets routes) (cleaned_paths sets others)
   pub asides : (cause : Cause) → set_aside sets cause routes ≡ set_aside sets cause others
 
--- the same of all routes of dumps
-abbrev pub DumpsGiveSame : Sets → (dumps others : List (List ℕ)) → Type 0
-DumpsGiveSame sets dumps others = GiveSame sets (routes_in_files dumps) (routes_in_files others)
+-- the same of all routes of dumps that count
+abbrev pub DumpsGiveSame : Wanted → (dumps others : List (List ℕ)) → Type 0
+DumpsGiveSame wanted dumps others = GiveSame wanted.sets (routes_in_files wanted dumps) (routes_in_files wanted others)
 
 -- what these routes give is taken in, as if they had come in some order
 pub record IsTakenInAnyOrder (sets : Sets) (routes : List Route) (taken : Taken) : Type 0 where
@@ -37,7 +38,7 @@ pub record AreSameInShort (taken other : Taken) : Type 0 where
 -- routes in another order do, and so do dumps
 pub record MovedRoutesLaw : Type 0 where
   pub routes : (sets : Sets) (routes others : List Route) → IsPermutation routes others → GiveSame sets routes others
-  pub dumps : (sets : Sets) (dumps others : List (List ℕ)) → IsPermutation dumps others → DumpsGiveSame sets dumps others
+  pub dumps : (wanted : Wanted) (dumps others : List (List ℕ)) → IsPermutation dumps others → DumpsGiveSame wanted dumps others
 
 -- what is taken in from nothing on; behind paths that stand in any order; and of routes that give the same
 pub record OneOrderOfRoutesLaw : Type 0 where

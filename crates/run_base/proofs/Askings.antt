@@ -10,7 +10,7 @@ use Rattle.dump_read.specs.declared.error.DumpError.{DumpError}
 use Rattle.dump_read.specs.declared.error.DumpError.TheVariants as error
 use Rattle.dump_read.specs.declared.taking.Taken.{Taken}
 use Rattle.dump_read.specs.Seen.{DumpsEnd, Absent, Malformed, Limit}
-use Rattle.path_clean.specs.declared.cleaned.Sets.{Sets}
+use Rattle.dump_read.specs.declared.wanted.Wanted.{Wanted}
 use Rattle.run_base.specs.declared.notes.FirstFile.{FirstFile}
 use Rattle.run_base.specs.declared.reading.Stopped.{Stopped}
 use Rattle.run_base.specs.declared.stop.Stop.{Stop}
@@ -194,19 +194,19 @@ module _ {S M R H : Type 0} (program : Program S M) (settings : S) (reads : Read
 -- ---- dumps
 
 -- a run may end where reading stopped at a dump, if what comes before it is good
-pub dump_end : {S M : Type 0} (program : Program S M) (settings : S) (reads : Reads) (known : Option Files) (steady : Type 0) (sets : Sets) (start : Taken) (dump : ℕ) (e : DumpError)
-    → program.reads settings ≡ Some reads → StopsDumps known steady sets reads.dumps start dump e → ((end : DumpsEnd) → DumpsEndAt known sets reads.dumps start end → program.Gives settings known (Ends end))
-    → ((n : ℕ) → ReadBefore known sets reads.dumps start (suc n) → program.Before settings known (suc n)) → MayEnd program settings known steady (ending_at dump e)
-dump_end program settings reads known steady sets start dump (error.Malformed place fault) is stops gives before = gives (Malformed place fault) stops
-dump_end program settings reads known steady sets start dump (error.Limit kind) is stops gives before = gives (Limit kind dump) stops
-dump_end program settings reads known steady sets start zero error.ReadFault is stops gives before = absurd (omega (arith, stops.0))
-dump_end program settings reads known steady sets start (suc n) error.ReadFault is stops gives before =
+pub dump_end : {S M : Type 0} (program : Program S M) (settings : S) (reads : Reads) (known : Option Files) (steady : Type 0) (wanted : Wanted) (start : Taken) (dump : ℕ) (e : DumpError)
+    → program.reads settings ≡ Some reads → StopsDumps known steady wanted reads.dumps start dump e → ((end : DumpsEnd) → DumpsEndAt known wanted reads.dumps start end → program.Gives settings known (Ends end))
+    → ((n : ℕ) → ReadBefore known wanted reads.dumps start (suc n) → program.Before settings known (suc n)) → MayEnd program settings known steady (ending_at dump e)
+dump_end program settings reads known steady wanted start dump (error.Malformed place fault) is stops gives before = gives (Malformed place fault) stops
+dump_end program settings reads known steady wanted start dump (error.Limit kind) is stops gives before = gives (Limit kind dump) stops
+dump_end program settings reads known steady wanted start zero error.ReadFault is stops gives before = absurd (omega (arith, stops.0))
+dump_end program settings reads known steady wanted start (suc n) error.ReadFault is stops gives before =
     record {
       named = subst (λ o. IsSomeAnd o (λ r. IsNumber (named_in r) (suc n))) (sym is) stops.1;
       before = before n stops.2;
       absent = λ held. gives (Absent (suc n)) (stops.3 held);
     }
-dump_end program settings reads known steady sets start dump error.NoMemory is stops gives before = tt
+dump_end program settings reads known steady wanted start dump error.NoMemory is stops gives before = tt
 
 -- ---- the file that is read first, by a text that is its name
 

@@ -1,7 +1,7 @@
 -- What a program is to its run: the settings that words give, the files that these name, what the files come to, and what is written of it.
 use Rattle.std.specs.Prelude.{◌≡◌, ◌≤◌, ◌-◌, ℕ, List, length, take, Option, None, Some, IfSome, IsOk, Ok, Err, option_map}
 use Rattle.tor_io.specs.Contents.{Files}
-use Rattle.path_clean.specs.declared.cleaned.Sets.{Sets}
+use Rattle.dump_read.specs.declared.wanted.Wanted.{Wanted}
 use Rattle.dump_read.specs.declared.taking.Taken.{Taken}
 use Rattle.dump_read.specs.Seen.{DumpsEnd, Absent, Malformed, Limit}
 use Rattle.run_base.specs.declared.notes.FirstFile.{FirstFile}
@@ -117,14 +117,14 @@ abbrev pub IsTooLong : Option Files → List ℕ → ℕ → Type 0
 IsTooLong known name most = IfSome known (λ files. IsLongFile most (files name))
 
 -- the dumps give this on top of that; where nothing is known of the files, some octets in their place do
-abbrev pub DumpsGive : Option Files → Sets → List (List ℕ) → (old new : Taken) → Type 0
-DumpsGive None sets dumps old new = IsOfSomeDumps sets (length dumps) old new
-DumpsGive (Some files) sets dumps old new = seen_from sets 1 old dumps files ≡ Ok new
+abbrev pub DumpsGive : Option Files → Wanted → List (List ℕ) → (old new : Taken) → Type 0
+DumpsGive None wanted dumps old new = IsOfSomeDumps wanted (length dumps) old new
+DumpsGive (Some files) wanted dumps old new = seen_from wanted 1 old dumps files ≡ Ok new
 
 -- they have this end
-abbrev pub DumpsEndAt : Option Files → Sets → List (List ℕ) → Taken → DumpsEnd → Type 0
-DumpsEndAt known sets dumps old end = IfSome known (λ files. seen_from sets 1 old dumps files ≡ Err end)
+abbrev pub DumpsEndAt : Option Files → Wanted → List (List ℕ) → Taken → DumpsEnd → Type 0
+DumpsEndAt known wanted dumps old end = IfSome known (λ files. seen_from wanted 1 old dumps files ≡ Err end)
 
 -- those before the dump of this number have no end
-abbrev pub ReadBefore : Option Files → Sets → List (List ℕ) → Taken → ℕ → Type 0
-ReadBefore known sets dumps old dump = IfSome known (λ files. IsOk (seen_from sets 1 old (take (dump - 1) dumps) files))
+abbrev pub ReadBefore : Option Files → Wanted → List (List ℕ) → Taken → ℕ → Type 0
+ReadBefore known wanted dumps old dump = IfSome known (λ files. IsOk (seen_from wanted 1 old (take (dump - 1) dumps) files))

@@ -10,7 +10,7 @@ use Rattle.dump_read.specs.declared.error.DumpError.{DumpError}
 use Rattle.dump_read.specs.declared.error.DumpError.TheVariants as error
 use Rattle.dump_read.specs.declared.taking.Taken.{Taken}
 use Rattle.dump_read.specs.Seen.{Absent, Malformed, Limit}
-use Rattle.path_clean.specs.declared.cleaned.Sets.{Sets}
+use Rattle.dump_read.specs.declared.wanted.Wanted.{Wanted}
 use Rattle.tor_words.specs.declared.refused.WordsRefused.{WordsRefused}
 use Rattle.tor_words.specs.declared.refused.WordsRefused.TheVariants as refused
 use Rattle.run_base.specs.declared.answer.Answer.{Answer}
@@ -67,18 +67,18 @@ IsFailedCall stop.NoMemory = ⊥
 -- ---- dumps
 
 -- reading stopped at the dump of this number for this, and all before it was read; over a steady shelf that dump isn't there
-abbrev pub StopsDumps : Option Files → (steady : Type 0) → Sets → List (List ℕ) → Taken → ℕ → DumpError → Type 0
-StopsDumps known steady sets dumps start dump (error.Malformed place fault) = DumpsEndAt known sets dumps start (Malformed place fault)
-StopsDumps known steady sets dumps start dump (error.Limit kind) = DumpsEndAt known sets dumps start (Limit kind dump)
-StopsDumps known steady sets dumps start dump error.ReadFault =
-    (1 ≤ dump) × (dump ≤ length dumps) × ReadBefore known sets dumps start dump × (steady → DumpsEndAt known sets dumps start (Absent dump))
-StopsDumps known steady sets dumps start dump error.NoMemory = ⊤
+abbrev pub StopsDumps : Option Files → (steady : Type 0) → Wanted → List (List ℕ) → Taken → ℕ → DumpError → Type 0
+StopsDumps known steady wanted dumps start dump (error.Malformed place fault) = DumpsEndAt known wanted dumps start (Malformed place fault)
+StopsDumps known steady wanted dumps start dump (error.Limit kind) = DumpsEndAt known wanted dumps start (Limit kind dump)
+StopsDumps known steady wanted dumps start dump error.ReadFault =
+    (1 ≤ dump) × (dump ≤ length dumps) × ReadBefore known wanted dumps start dump × (steady → DumpsEndAt known wanted dumps start (Absent dump))
+StopsDumps known steady wanted dumps start dump error.NoMemory = ⊤
 
 -- all dumps give this on top of that, or reading stopped at one of them
-pub record ReadsDumps {H : Type 0} (h : shelf.Ghosts H) (sets : Sets) (dumps : List (List ℕ)) (start : Taken)
+pub record ReadsDumps {H : Type 0} (h : shelf.Ghosts H) (wanted : Wanted) (dumps : List (List ℕ)) (start : Taken)
     (result : Result Taken Stopped) (old new : H) : Type 0 where
-  pub given : IfOk result (DumpsGive (h.files old) sets dumps start)
-  pub stopped : IfErr result (λ e. StopsDumps (h.files old) (h.steady old) sets dumps start e.dump e.error)
+  pub given : IfOk result (DumpsGive (h.files old) wanted dumps start)
+  pub stopped : IfErr result (λ e. StopsDumps (h.files old) (h.steady old) wanted dumps start e.dump e.error)
   pub read_out : OnOk result (0 < length dumps → IsAtEnd (h.left new))
   pub reach : IfErr result (λ e. IsDumpInReach dumps (h.files old) (h.left new) e.dump e.error)
   pub opens : OnOk result (h.opens new ≡ h.opens old ++ dumps)

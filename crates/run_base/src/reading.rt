@@ -9,8 +9,8 @@ ghost use Rattle.dump_read.specs.Reach.{StopsBounded, LeavesRestOfDump};
 ghost use Rattle.run_base.specs.Stopping.{ReadsDumps};
 ghost use Rattle.run_base.specs.Reading.{nothing, seen_from, name_of_dump, IsOfSomeDumps};
 
-use dump_read::{DumpError, LimitKind, Taken, read_dump};
-use path_clean::{Asides, Sets};
+use dump_read::{DumpError, LimitKind, Taken, Wanted, read_dump};
+use path_clean::Asides;
 use path_table::PathTable;
 use std::alloc::Global;
 use tor_arena::{Keys, List};
@@ -39,24 +39,24 @@ pub fn nothing_taken(alloc: Global, keys: Keys, limit: u32) -> Taken
     }
 }
 
-/// Reads the dumps in order, and takes in their routes. At Ok that is what dumps of some octets give, also where nothing is known of the
+/// Reads the dumps in order, and takes in their routes that count. At Ok that is what dumps of some octets give, also where nothing is known of the
 /// shelf's files.
 pub fn read_dumps<H: Shelf>(
     alloc: Global,
     shelf: &mut H,
     dumps: &[Name],
-    sets: Sets,
+    wanted: &Wanted,
     taken: &mut Taken,
 ) -> Result<(), Stopped>
     ensures read { OnOk result (IfSome (H.files shelf.old) (λ files.
-        seen_from sets 1 taken.old dumps.now files ≡ Ok taken.new)) }
-    ensures some_dumps { OnOk result (IsOfSomeDumps sets (length dumps.now) taken.old taken.new) }
+        seen_from wanted.now 1 taken.old dumps.now files ≡ Ok taken.new)) }
+    ensures some_dumps { OnOk result (IsOfSomeDumps wanted.now (length dumps.now) taken.old taken.new) }
     ensures stopped { IfErr result (λ e. IfSome (end_named e.dump e.error) (λ end. IfSome (H.files shelf.old) (λ files.
-        seen_from sets 1 taken.old dumps.now files ≡ Err end))) }
+        seen_from wanted.now 1 taken.old dumps.now files ≡ Err end))) }
     ensures place { IfErr result (λ e. IsOfDump e.dump e.error) }
     ensures named { IfErr result (λ e. (1 ≤ e.dump) × (e.dump ≤ length dumps.now)) }
     ensures before { IfErr result (λ e. IfSome (H.files shelf.old) (λ files.
-        IsOk (seen_from sets 1 taken.old (take (e.dump - 1) dumps.now) files))) }
+        IsOk (seen_from wanted.now 1 taken.old (take (e.dump - 1) dumps.now) files))) }
     ensures read_out { OnOk result (0 < length dumps.now → IsAtEnd (H.left shelf.new)) }
     ensures bounded { IfErr result (λ e.
         StopsBounded e.error (name_of_dump dumps.now e.dump) (H.files shelf.old) (H.left shelf.new)) }
@@ -72,11 +72,11 @@ pub fn read_dumps<H: Shelf>(
     ensures quiet_stop { IfErr result (λ e. e.error ≢ DumpError.ReadFault → H.faults shelf.new ≡ H.faults shelf.old) }
     ensures steady { H.steady shelf.old → H.steady shelf.new }
     ensures steady_failed { H.steady shelf.old → IfErr result (λ e. e.error ≡ DumpError.ReadFault →
-        IfSome (H.files shelf.old) (λ files. seen_from sets 1 taken.old dumps.now files ≡ Err (Absent e.dump))) }
+        IfSome (H.files shelf.old) (λ files. seen_from wanted.now 1 taken.old dumps.now files ≡ Err (Absent e.dump))) }
 {
     for (place, name) in dumps.iter().enumerate() {
         let dump = place as u64 + 1;
-        match read_dump(alloc, shelf, name.as_text(), dump, sets, taken) {
+        match read_dump(alloc, shelf, name.as_text(), dump, wanted, taken) {
             Ok(()) => {}
             Err(error) => return Err(Stopped { dump, error }),
         }
@@ -89,13 +89,13 @@ pub fn read_onto<H: Shelf>(
     alloc: Global,
     shelf: &mut H,
     dumps: &[Name],
-    sets: Sets,
+    wanted: &Wanted,
     start: Taken,
 ) -> Result<Taken, Stopped>
-    ensures { ReadsDumps H.Shelf sets dumps.now start result shelf.old shelf.new }
+    ensures { ReadsDumps H.Shelf wanted.now dumps.now start result shelf.old shelf.new }
 {
     let mut taken = start;
-    match read_dumps(alloc, shelf, dumps, sets, &mut taken) {
+    match read_dumps(alloc, shelf, dumps, wanted, &mut taken) {
         Ok(()) => Ok(taken),
         Err(stopped) => {
             drop(taken);

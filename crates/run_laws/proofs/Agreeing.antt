@@ -30,6 +30,7 @@ use Rattle.tor_output.proofs.Joining.{seen_by}
 use Rattle.tor_output.proofs.SeenLemmas.{made_of_files}
 use Rattle.tor_output.proofs.WiderLimit.{widened, all_files}
 use Rattle.run_laws.specs.Agreement.{AgreementLaw, IsAgreedOn}
+use Rattle.dump_read.specs.Wanted.{all_wanted}
 
 -- dumps that give what a result has bear it out
 by_dumps : (any : Bool) (file : ResultFile) (dumps : List (List ℕ)) (files : Files) (taken : Taken) → seen_for file dumps files ≡ Ok taken
@@ -82,9 +83,9 @@ module _ (law : OneValue) (any : Bool) (files : Files) (file : ResultFile) (text
 pub sees : (settings : Settings) (files : Files) (known : Option KnownLines) (taken : Taken) (file : ResultFile) → settings.max_paths ≤ max_paths →
     seen settings files ≡ Ok taken → Faithful settings known taken file → seen_for file (dumps_in settings) files ≡ Ok (widened max_paths taken)
 sees settings files known taken file few gives faithful =
-    let wide = all_files settings.max_paths max_paths settings.sets 1 (nothing settings.max_paths) taken (dumps_in settings) files
+    let wide = all_files settings.max_paths max_paths (all_wanted settings.sets) 1 (nothing settings.max_paths) taken (dumps_in settings) files
     (record { same = refl; few = omega arith; less = few }) gives in
-    subst (λ (s : Sets). seen_from s 1 (nothing max_paths) (dumps_in settings) files ≡ Ok (widened max_paths taken)) (sym faithful.its_sets) wide
+    subst (λ (s : Sets). seen_from (all_wanted s) 1 (nothing max_paths) (dumps_in settings) files ≡ Ok (widened max_paths taken)) (sym faithful.its_sets) wide
 
 pub agreement : OneValue → BoundsLaw → FaithfulLaw → TableLaw → AgreementLaw
 agreement law bounds faithful_is table_is words settings files known taken output given order makes comes asked names later same =
@@ -94,5 +95,5 @@ agreement law bounds faithful_is table_is words settings files known taken outpu
     let rows = table_is words settings files known taken given comes in
     let accepted = (faithful_is words settings known taken file given rows.1 rows.0 faithful).accepted in
     agreed_beside law false later file output.text (record { text = text; rules = accepted }) names (widened max_paths taken)
-    (seen_by file.sets 1 (nothing max_paths) names (dumps_in settings) later files same ∙ sees settings files known taken file within.most gives faithful)
+    (seen_by (all_wanted file.sets) 1 (nothing max_paths) names (dumps_in settings) later files same ∙ sees settings files known taken file within.most gives faithful)
     (faithful.its_counts, faithful.paths ∙ ap (λ (o : Order). ordered o taken.table.rows) order)

@@ -40,6 +40,7 @@ use Rattle.tor_output.proofs.SomeOrders.{from_nothing, taken_in_some_order}
 use Rattle.tor_output.proofs.WiderLimit.{widened}
 use Rattle.run_laws.specs.Agreement.{AnyOrderAgreementLaw, IsAgreedOn}
 use Rattle.run_laws.proofs.Agreeing.{agreed_beside, sees}
+use Rattle.dump_read.specs.Wanted.{all_wanted}
 
 -- ---- dumps in another order
 
@@ -93,13 +94,13 @@ module _ (law : OneValue) (file : ResultFile) (text : List ℕ) (accepted : IsAc
       Hold later names all → IsAgreedOn true names later text
   agreed_in_any_order dumps all is_of moved names later hold =
       let these = taken_in_some_order file dumps is_of in
-      let same = moved_law.dumps file.sets dumps all moved in
-      let taken = in_other_order file.sets (routes_in_files dumps) (routes_in_files all) these.gave same these.taken in
-      let found = from_nothing file.sets all these.gave taken these.table (All-permutation IsWhole dumps all moved these.whole) in
+      let same = moved_law.dumps (all_wanted file.sets) dumps all moved in
+      let taken = in_other_order file.sets (routes_in_files (all_wanted file.sets) dumps) (routes_in_files (all_wanted file.sets) all) these.gave same these.taken in
+      let found = from_nothing (all_wanted file.sets) all these.gave taken these.table (All-permutation IsWhole dumps all moved these.whole) in
       let to_after = IsPermutation-trans (its_rows file) these.gave.table.rows found.after.table.rows
       (IsPermutation-sym these.gave.table.rows (its_rows file) these.moved) (IsPermutation-sym found.after.table.rows these.gave.table.rows found.moved) in
       let judged = ordered_law file Seen 0 (its_rows file) found.after.table.rows file.asides (refl, refl) to_after in
-      agreed_beside law true later file text accepted names found.after (held file.sets 1 (nothing max_paths) names all later hold ∙ found.sees)
+      agreed_beside law true later file text accepted names found.after (held (all_wanted file.sets) 1 (nothing max_paths) names all later hold ∙ found.sees)
       (subst (λ (counts : CauseCounts). JudgesInAnyOrder file found.after.table.rows counts Yes) (sym (found.counts ∙ these.counts)) judged)
 
 -- a result that a run makes of dumps is of their octets, in some order
@@ -107,7 +108,7 @@ pub of_its_dumps : (settings : Settings) (files : Files) (known : Option KnownLi
     → Hold files (dumps_in settings) dumps → Faithful settings known taken file → IsOfDumpsInSomeOrder file dumps
 of_its_dumps settings files known taken file dumps sees hold faithful = (
   widened max_paths taken,
-  sym (held file.sets 1 (nothing max_paths) (dumps_in settings) dumps files hold) ∙ sees,
+  sym (held (all_wanted file.sets) 1 (nothing max_paths) (dumps_in settings) dumps files hold) ∙ sees,
   subst (IsPermutation taken.table.rows) (behind_none settings.order taken.table.rows ∙ sym faithful.paths) (behind_moves settings.order 0 taken.table.rows),
   sym faithful.its_counts,
 )
@@ -119,7 +120,7 @@ any_order_agreement law bounds faithful_is table_is words settings files known t
     let rows = table_is words settings files known taken given comes in
     let accepted = (faithful_is words settings known taken file given rows.1 rows.0 faithful).accepted in
     let sees_all = sees settings files known taken file (bounds words settings given).most gives faithful in
-    let (dumps, hold) = octets_of file.sets 1 (nothing max_paths) (widened max_paths taken) (dumps_in settings) files sees_all in
+    let (dumps, hold) = octets_of (all_wanted file.sets) 1 (nothing max_paths) (widened max_paths taken) (dumps_in settings) files sees_all in
     let found = moved_octets dumps (map later names) (subst (λ (fs : List (Option (List ℕ))). IsPermutation fs (map later names)) hold moved) in
     agreed_in_any_order law file output.text (record { text = text; rules = accepted }) dumps found.all
     (of_its_dumps settings files known taken file dumps sees_all hold faithful) found.moved names later found.have

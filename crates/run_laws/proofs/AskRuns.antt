@@ -64,6 +64,7 @@ use Rattle.tor_output.proofs.Orderings.{taken_rows}
 use Rattle.tor_output.proofs.SeenLemmas.{made_of_files}
 use Rattle.run_laws.specs.AskRuns.{KnowsMore, SettlesAsSaid, ComesTrue, AskRunLaw, known_octets}
 use Rattle.run_laws.proofs.MoreLines.{names_its, names_others, with_given}
+use Rattle.dump_read.specs.Wanted.{all_wanted}
 
 -- ---- what the file of known relationships says
 
@@ -214,8 +215,8 @@ same_taken : (settings other : Settings) (files later : Files) (given : Given) (
 same_taken settings other files later given taken taken' more sees sees' =
     let options = ap (λ (s : Settings). (s.sets, s.max_paths)) more.options in
     let there : seen other later ≡ seen settings files =
-    ap (λ (p : Sets × ℕ). seen_from p.0 1 (nothing p.1) (dumps_in other) later) options ∙
-    seen_by settings.sets 1 (nothing settings.max_paths) (dumps_in other) (dumps_in settings) later files more.dumps in
+    ap (λ (p : Sets × ℕ). seen_from (all_wanted p.0) 1 (nothing p.1) (dumps_in other) later) options ∙
+    seen_by (all_wanted settings.sets) 1 (nothing settings.max_paths) (dumps_in other) (dumps_in settings) later files more.dumps in
     same_ok taken' taken (sym sees' ∙ there ∙ sees)
   where
     same_ok : (a b : Taken) → ◌≡◌ {A = Result Taken DumpsEnd} (Ok a) (Ok b) → a ≡ b

@@ -33,6 +33,8 @@ use Rattle.top_givens.specs.TopGivens.{top_givens_behind}
 use Rattle.top_laws.specs.MoreGivens.{with_more_givens}
 use Rattle.top_laws.proofs.StillMet.{top_more_law}
 use Rattle.run_laws.proofs.JoinedResults.{is_accepted, joined_vouched}
+use Rattle.dump_read.specs.declared.wanted.Wanted.{Wanted}
+use Rattle.dump_read.specs.Wanted.{all_wanted}
 
 -- ---- on top of a result
 
@@ -74,41 +76,41 @@ resumed_stays_law bounds accept stays words settings files earlier taken file gi
 -- ---- of dumps after others
 
 -- some number of the first of them, from which on they give the same as all from this one on
-behind : (sets : Sets) (dump : ℕ) (old mid : Taken) (dumps more : List (List ℕ)) → seen_of sets dump old dumps ≡ Ok mid →
-    (later : ℕ) × (seen_of sets dump old (dumps ++ more) ≡ seen_of sets later mid more)
-behind sets dump old mid [] more e = (dump, ap (λ (t : Taken). seen_of sets dump t more) (values.ok_is (seen_of sets dump old []) old mid refl e))
-behind sets dump old mid (octets ∷ dumps) more e = by (of_octets sets dump old octets) e (λ further. behind sets (dump + 1) further mid dumps more)
+behind : (wanted : Wanted) (dump : ℕ) (old mid : Taken) (dumps more : List (List ℕ)) → seen_of wanted dump old dumps ≡ Ok mid →
+    (later : ℕ) × (seen_of wanted dump old (dumps ++ more) ≡ seen_of wanted later mid more)
+behind wanted dump old mid [] more e = (dump, ap (λ (t : Taken). seen_of wanted dump t more) (values.ok_is (seen_of wanted dump old []) old mid refl e))
+behind wanted dump old mid (octets ∷ dumps) more e = by (of_octets wanted dump old octets) e (λ further. behind wanted (dump + 1) further mid dumps more)
   where
-    by : (one : Result Taken DumpsEnd) → (one >>= λ further. seen_of sets (dump + 1) further dumps) ≡ Ok mid →
-        ((further : Taken) → seen_of sets (dump + 1) further dumps ≡ Ok mid → (later : ℕ) × (seen_of sets (dump + 1) further (dumps ++ more) ≡ seen_of sets later mid more)) →
-        (later : ℕ) × ((one >>= λ further. seen_of sets (dump + 1) further (dumps ++ more)) ≡ seen_of sets later mid more)
+    by : (one : Result Taken DumpsEnd) → (one >>= λ further. seen_of wanted (dump + 1) further dumps) ≡ Ok mid →
+        ((further : Taken) → seen_of wanted (dump + 1) further dumps ≡ Ok mid → (later : ℕ) × (seen_of wanted (dump + 1) further (dumps ++ more) ≡ seen_of wanted later mid more)) →
+        (later : ℕ) × ((one >>= λ further. seen_of wanted (dump + 1) further (dumps ++ more)) ≡ seen_of wanted later mid more)
     by (Err end) e rest = absurd cc
     by (Ok further) e rest = rest further e
 
-dumps_begin : (first : List (List ℕ)) (sets : Sets) (dump : ℕ) (old new : Taken) (dumps : List (List ℕ)) → seen_of sets dump old dumps ≡ Ok new → Begins first old.table.rows →
+dumps_begin : (first : List (List ℕ)) (wanted : Wanted) (dump : ℕ) (old new : Taken) (dumps : List (List ℕ)) → seen_of wanted dump old dumps ≡ Ok new → Begins first old.table.rows →
     Begins first new.table.rows
-dumps_begin first sets dump old new [] e so_far = subst (λ (t : Taken). Begins first t.table.rows) (values.ok_is (seen_of sets dump old []) old new refl e) so_far
-dumps_begin first sets dump old new (octets ∷ dumps) e so_far =
-    by (of_octets sets dump old octets) refl e (λ further. dumps_begin first sets (dump + 1) further new dumps)
+dumps_begin first wanted dump old new [] e so_far = subst (λ (t : Taken). Begins first t.table.rows) (values.ok_is (seen_of wanted dump old []) old new refl e) so_far
+dumps_begin first wanted dump old new (octets ∷ dumps) e so_far =
+    by (of_octets wanted dump old octets) refl e (λ further. dumps_begin first wanted (dump + 1) further new dumps)
   where
-    by : (one : Result Taken DumpsEnd) → of_octets sets dump old octets ≡ one → (one >>= λ further. seen_of sets (dump + 1) further dumps) ≡ Ok new →
-        ((further : Taken) → seen_of sets (dump + 1) further dumps ≡ Ok new → Begins first further.table.rows → Begins first new.table.rows) → Begins first new.table.rows
+    by : (one : Result Taken DumpsEnd) → of_octets wanted dump old octets ≡ one → (one >>= λ further. seen_of wanted (dump + 1) further dumps) ≡ Ok new →
+        ((further : Taken) → seen_of wanted (dump + 1) further dumps ≡ Ok new → Begins first further.table.rows → Begins first new.table.rows) → Begins first new.table.rows
     by (Err end) is e rest = absurd cc
-    by (Ok further) is e rest = rest further e (octets_begin first sets dump old further octets is so_far)
+    by (Ok further) is e rest = rest further e (octets_begin first wanted dump old further octets is so_far)
 
 pub rows_paths : (lines : List PathLine) → row_paths (map row_of lines) ≡ map (λ (p : PathLine). p.path) lines
 rows_paths [] = refl
 rows_paths (line ∷ lines) = ap (λ (ps : List (List ℕ)). line.path ∷ ps) (rows_paths lines)
 
 pub added_stays_law : ForcedStaysLaw → AddedStaysLaw
-added_stays_law stays dumps more earlier later accepts accepts' before after sets givens =
+added_stays_law stays dumps more earlier later accepts accepts' before after wanted givens =
     let (gave, gives, rows, counts) = before in
     let (got, gets, rows', counts') = after in
-    let on = behind earlier.sets 1 (nothing max_paths) gave dumps more gives in
-    let gets_too : seen_of earlier.sets 1 (nothing max_paths) (dumps ++ more) ≡ Ok got =
-    subst (λ (s : Sets). seen_of s 1 (nothing max_paths) (dumps ++ more) ≡ Ok got) sets gets in
+    let on = behind (all_wanted earlier.sets) 1 (nothing max_paths) gave dumps more gives in
+    let gets_too : seen_of (all_wanted earlier.sets) 1 (nothing max_paths) (dumps ++ more) ≡ Ok got =
+    subst (λ (s : Sets). seen_of (all_wanted s) 1 (nothing max_paths) (dumps ++ more) ≡ Ok got) wanted gets in
     let start : Begins (its_paths earlier) gave.table.rows = ([], ap row_paths rows ∙ rows_paths earlier.paths ∙ sym (append-nil (its_paths earlier))) in
-    let begun = dumps_begin (its_paths earlier) earlier.sets on.0 gave got more (sym on.1 ∙ gets_too) start in
+    let begun = dumps_begin (its_paths earlier) (all_wanted earlier.sets) on.0 gave got more (sym on.1 ∙ gets_too) start in
     let paths : its_paths later ≡ its_paths earlier ++ begun.0 = sym (rows_paths later.paths) ∙ ap row_paths (sym rows') ∙ begun.1 in
     let many : length (its_paths earlier) ≡ length earlier.paths = length-map earlier.paths (λ (p : PathLine). p.path) in
     stays earlier later accepts accepts' (record {

@@ -17,7 +17,6 @@ use Rattle.result_rules.specs.declared.rule.Rule.TheVariants.{HeadSound, PathsCl
 use Rattle.result_rules.specs.declared.rule.Rule.TheVariants.{LabelsServe, SupportCounted, OrdersShown, MarksBorneOut, TotalsRight}
 use Rattle.result_rules.specs.declared.verdict.Verdict.{Verdict}
 use Rattle.result_rules.specs.declared.verdict.Verdict.TheVariants.{Yes, No}
-use Rattle.path_clean.specs.declared.cleaned.Sets.{Sets}
 use Rattle.path_attrs.specs.Fields.{◌>>=◌}
 use Rattle.dump_read.specs.declared.taking.Taken.{Taken}
 use Rattle.dump_read.specs.Seen.{DumpsEnd, of_file}
@@ -37,6 +36,8 @@ use Rattle.tor_output.specs.Output.{migrated}
 use Rattle.run_laws.specs.Agreement.{MigrateLaw}
 use Rattle.run_laws.specs.SelfGrading.{KeepDumps}
 use Rattle.run_laws.proofs.EqualLengths.{migrated_long}
+use Rattle.dump_read.specs.declared.wanted.Wanted.{Wanted}
+use Rattle.dump_read.specs.Wanted.{all_wanted}
 
 asks_on : (f : ResultFile) (rule : Rule) (k : ℕ) → Asks f rule k → Asks (migrated f) rule k
 asks_on f HeadSound zero h = h
@@ -267,17 +268,17 @@ bound (Ok t) f g same = same t
 bound (Err e) f g same = refl
 
 -- what dumps give doesn't depend on other files
-pub seen_same : (sets : Sets) (dump : ℕ) (taken : Taken) (names : List (List ℕ)) (files later : Files) → KeepDumps names files later →
-    seen_from sets dump taken names files ≡ seen_from sets dump taken names later
-seen_same sets dump taken [] files later keep = refl
-seen_same sets dump taken (name ∷ names) files later keep =
-    ap (λ (f : Option (List ℕ)). of_file sets dump taken f >>= λ further. seen_from sets (dump + 1) further names files) (sym (keep name (0, omega arith, refl)))
-    ∙ bound (of_file sets dump taken (later name)) (λ further. seen_from sets (dump + 1) further names files) (λ further. seen_from sets (dump + 1) further names later)
-    (λ further. seen_same sets (dump + 1) further names files later (λ n i. keep n (suc i.0, omega (arith, i.1), i.2)))
+pub seen_same : (wanted : Wanted) (dump : ℕ) (taken : Taken) (names : List (List ℕ)) (files later : Files) → KeepDumps names files later →
+    seen_from wanted dump taken names files ≡ seen_from wanted dump taken names later
+seen_same wanted dump taken [] files later keep = refl
+seen_same wanted dump taken (name ∷ names) files later keep =
+    ap (λ (f : Option (List ℕ)). of_file wanted dump taken f >>= λ further. seen_from wanted (dump + 1) further names files) (sym (keep name (0, omega arith, refl)))
+    ∙ bound (of_file wanted dump taken (later name)) (λ further. seen_from wanted (dump + 1) further names files) (λ further. seen_from wanted (dump + 1) further names later)
+    (λ further. seen_same wanted (dump + 1) further names files later (λ n i. keep n (suc i.0, omega (arith, i.1), i.2)))
 
 module _ (dumps : List (List ℕ)) (files later : Files) (keep : KeepDumps dumps files later) where
   seen_kept : (file : ResultFile) (r : Result Taken DumpsEnd) → seen_for file dumps files ≡ r → seen_for file dumps later ≡ r
-  seen_kept file r e = sym (seen_same file.sets 1 (nothing max_paths) dumps files later keep) ∙ e
+  seen_kept file r e = sym (seen_same (all_wanted file.sets) 1 (nothing max_paths) dumps files later keep) ∙ e
 
 dumps_kept : (any : Bool) (f : ResultFile) (dumps : List (List ℕ)) (files later : Files) → KeepDumps dumps files later → (v : Verdict) → JudgesByDumps any f dumps files v → JudgesByDumps any f dumps later v
 dumps_kept any f [] files later keep v h = h

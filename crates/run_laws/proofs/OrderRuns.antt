@@ -14,7 +14,6 @@ use Rattle.tor_arena.specs.Limits.{max_paths}
 use Rattle.dump_read.specs.declared.taking.Taken.{Taken}
 use Rattle.dump_read.specs.Batches.{cleaned}
 use Rattle.dump_read.specs.Laws.{IsTakenOf, DumpLaw, cleaned_paths, path_in, routes_in_files}
-use Rattle.dump_read.specs.Reading.{file_reading}
 use Rattle.dump_read.specs.Routes.{Route}
 use Rattle.dump_read.specs.Seen.{DumpsEnd, of_octets}
 use Rattle.result_text.specs.declared.file.ResultFile.{ResultFile}
@@ -27,6 +26,8 @@ use Rattle.tor_output.specs.Resuming.{IsOfDumps}
 use Rattle.tor_output.proofs.TableRows.{eq_true}
 use Rattle.run_laws.specs.AnyOrder.{AnyDumpOrderLaw}
 use Rattle.run_laws.proofs.GrowingRuns.{rows_paths}
+use Rattle.dump_read.specs.declared.wanted.Wanted.{Wanted}
+use Rattle.dump_read.specs.Wanted.{all_wanted, file_routes}
 
 -- ---- distinct paths
 
@@ -76,65 +77,65 @@ counted_paths of (path ∷ paths) = ap (λ (ps : List (List ℕ)). path ∷ ps) 
 
 -- ---- the paths of dumps
 
-abbrev paths_in : Sets → List (List ℕ) → List (List ℕ)
-paths_in sets dumps = cleaned_paths sets (routes_in_files dumps)
+abbrev paths_in : Wanted → List (List ℕ) → List (List ℕ)
+paths_in wanted dumps = cleaned_paths wanted.sets (routes_in_files wanted dumps)
 
-abbrev paths_on : Sets → List ℕ → List (List ℕ)
-paths_on sets octets = cleaned_paths sets (file_reading octets).routes
+abbrev paths_on : Wanted → List ℕ → List (List ℕ)
+paths_on wanted octets = cleaned_paths wanted.sets (file_routes wanted octets)
 
-one_more : (sets : Sets) (octets : List ℕ) (dumps : List (List ℕ)) → paths_in sets (octets ∷ dumps) ≡ paths_on sets octets ++ paths_in sets dumps
-one_more sets octets dumps =
-    ap (filter_map path_in) (map-append (λ (route : Route). clean_of sets route.width route.attrs) (file_reading octets).routes (routes_in_files dumps)) ∙
-    filter_map-append path_in (cleaned sets (file_reading octets).routes) (cleaned sets (routes_in_files dumps))
+one_more : (wanted : Wanted) (octets : List ℕ) (dumps : List (List ℕ)) → paths_in wanted (octets ∷ dumps) ≡ paths_on wanted octets ++ paths_in wanted dumps
+one_more wanted octets dumps =
+    ap (filter_map path_in) (map-append (λ (route : Route). clean_of wanted.sets route.width route.attrs) (file_routes wanted octets) (routes_in_files wanted dumps)) ∙
+    filter_map-append path_in (cleaned wanted.sets (file_routes wanted octets)) (cleaned wanted.sets (routes_in_files wanted dumps))
 
-on_one : (sets : Sets) (dumps : List (List ℕ)) (octets : List ℕ) → Contains dumps octets → (p : List ℕ) → Contains (paths_on sets octets) p → Contains (paths_in sets dumps) p
-on_one sets [] octets there p c = absurd (omega (arith, there.1))
-on_one sets (first ∷ dumps) octets there p c =
-    subst (λ ps. Contains ps p) (sym (one_more sets first dumps))
+on_one : (wanted : Wanted) (dumps : List (List ℕ)) (octets : List ℕ) → Contains dumps octets → (p : List ℕ) → Contains (paths_on wanted octets) p → Contains (paths_in wanted dumps) p
+on_one wanted [] octets there p c = absurd (omega (arith, there.1))
+on_one wanted (first ∷ dumps) octets there p c =
+    subst (λ ps. Contains ps p) (sym (one_more wanted first dumps))
     (elim (first_or_behind first dumps octets there) [
-      | inl is ↦ Contains-append_left (paths_on sets first) (paths_in sets dumps) p (subst (λ o. Contains (paths_on sets o) p) (sym is) c)
-      | inr b ↦ Contains-append_right (paths_on sets first) (paths_in sets dumps) p (on_one sets dumps octets b p c)
+      | inl is ↦ Contains-append_left (paths_on wanted first) (paths_in wanted dumps) p (subst (λ o. Contains (paths_on wanted o) p) (sym is) c)
+      | inr b ↦ Contains-append_right (paths_on wanted first) (paths_in wanted dumps) p (on_one wanted dumps octets b p c)
     ])
 
-in_all : (sets : Sets) (dumps all : List (List ℕ)) → ((octets : List ℕ) → Contains dumps octets → Contains all octets) → (p : List ℕ) → Contains (paths_in sets dumps) p →
-    Contains (paths_in sets all) p
-in_all sets [] all sub p c = absurd (omega (arith, c.1))
-in_all sets (octets ∷ dumps) all sub p c =
-    elim (Contains-append_cases (paths_on sets octets) (paths_in sets dumps) p (subst (λ ps. Contains ps p) (one_more sets octets dumps) c)) [
-      | inl i ↦ on_one sets all octets (sub octets (first_one octets dumps octets refl)) p i
-      | inr i ↦ in_all sets dumps all (λ o there. sub o (behind_first octets dumps o there)) p i
+in_all : (wanted : Wanted) (dumps all : List (List ℕ)) → ((octets : List ℕ) → Contains dumps octets → Contains all octets) → (p : List ℕ) → Contains (paths_in wanted dumps) p →
+    Contains (paths_in wanted all) p
+in_all wanted [] all sub p c = absurd (omega (arith, c.1))
+in_all wanted (octets ∷ dumps) all sub p c =
+    elim (Contains-append_cases (paths_on wanted octets) (paths_in wanted dumps) p (subst (λ ps. Contains ps p) (one_more wanted octets dumps) c)) [
+      | inl i ↦ on_one wanted all octets (sub octets (first_one octets dumps octets refl)) p i
+      | inr i ↦ in_all wanted dumps all (λ o there. sub o (behind_first octets dumps o there)) p i
     ]
 
 -- what is taken in of dumps after others
-taken_of : DumpLaw → (sets : Sets) (d : ℕ) (before : List (List ℕ)) (old new : Taken) (dumps : List (List ℕ)) → IsTakenOf sets (routes_in_files before) old →
-    seen_of sets d old dumps ≡ Ok new → IsTakenOf sets (routes_in_files (before ++ dumps)) new
-taken_of law sets d before old new [] so_far e =
-    subst (λ ds. IsTakenOf sets (routes_in_files ds) new) (sym (append-nil before)) (subst (IsTakenOf sets (routes_in_files before)) (values.ok_is (seen_of sets d old []) old new refl e) so_far)
-taken_of law sets d before old new (octets ∷ dumps) so_far e =
-    by (of_octets sets d old octets) refl e (λ further. taken_of law sets (d + 1) (before ++ octets ∷ []) further new dumps)
+taken_of : DumpLaw → (wanted : Wanted) (d : ℕ) (before : List (List ℕ)) (old new : Taken) (dumps : List (List ℕ)) → IsTakenOf wanted.sets (routes_in_files wanted before) old →
+    seen_of wanted d old dumps ≡ Ok new → IsTakenOf wanted.sets (routes_in_files wanted (before ++ dumps)) new
+taken_of law wanted d before old new [] so_far e =
+    subst (λ ds. IsTakenOf wanted.sets (routes_in_files wanted ds) new) (sym (append-nil before)) (subst (IsTakenOf wanted.sets (routes_in_files wanted before)) (values.ok_is (seen_of wanted d old []) old new refl e) so_far)
+taken_of law wanted d before old new (octets ∷ dumps) so_far e =
+    by (of_octets wanted d old octets) refl e (λ further. taken_of law wanted (d + 1) (before ++ octets ∷ []) further new dumps)
   where
-    by : (one : Result Taken DumpsEnd) → of_octets sets d old octets ≡ one → (one >>= λ further. seen_of sets (d + 1) further dumps) ≡ Ok new →
-        ((further : Taken) → IsTakenOf sets (routes_in_files (before ++ octets ∷ [])) further → seen_of sets (d + 1) further dumps ≡ Ok new →
-        IsTakenOf sets (routes_in_files ((before ++ octets ∷ []) ++ dumps)) new) → IsTakenOf sets (routes_in_files (before ++ (octets ∷ dumps))) new
+    by : (one : Result Taken DumpsEnd) → of_octets wanted d old octets ≡ one → (one >>= λ further. seen_of wanted (d + 1) further dumps) ≡ Ok new →
+        ((further : Taken) → IsTakenOf wanted.sets (routes_in_files wanted (before ++ octets ∷ [])) further → seen_of wanted (d + 1) further dumps ≡ Ok new →
+        IsTakenOf wanted.sets (routes_in_files wanted ((before ++ octets ∷ []) ++ dumps)) new) → IsTakenOf wanted.sets (routes_in_files wanted (before ++ (octets ∷ dumps))) new
     by (Err end) is e rest = absurd cc
     by (Ok further) is e rest =
-        let more = law.further sets d before (Some octets) old further so_far is in
-        let taken = subst (λ (o : List ℕ). IsTakenOf sets (routes_in_files (before ++ o ∷ [])) further) (sym (same_Some octets more.octets more.there)) more.taken in
-        subst (λ ds. IsTakenOf sets (routes_in_files ds) new) (append_assoc before (octets ∷ []) dumps) (rest further taken e)
+        let more = law.further wanted d before (Some octets) old further so_far is in
+        let taken = subst (λ (o : List ℕ). IsTakenOf wanted.sets (routes_in_files wanted (before ++ o ∷ [])) further) (sym (same_Some octets more.octets more.there)) more.taken in
+        subst (λ ds. IsTakenOf wanted.sets (routes_in_files wanted ds) new) (append_assoc before (octets ∷ []) dumps) (rest further taken e)
 
-paths_of_octets : DumpLaw → (file : ResultFile) (dumps : List (List ℕ)) → IsOfDumps file dumps → its_paths file ≡ distinct_paths (paths_in file.sets dumps)
+paths_of_octets : DumpLaw → (file : ResultFile) (dumps : List (List ℕ)) → IsOfDumps file dumps → its_paths file ≡ distinct_paths (paths_in (all_wanted file.sets) dumps)
 paths_of_octets law file dumps (taken, gives, rows, counts) =
-    let start = law.first file.sets (nothing max_paths) (record { rows = refl; counts = refl }) in
-    let all = taken_of law file.sets 1 [] (nothing max_paths) taken dumps start gives in
-    sym (rows_paths file.paths) ∙ ap row_paths (sym rows ∙ all.rows) ∙ counted_paths (times (paths_in file.sets dumps)) (distinct_paths (paths_in file.sets dumps))
+    let start = law.first (all_wanted file.sets) (nothing max_paths) (record { rows = refl; counts = refl }) in
+    let all = taken_of law (all_wanted file.sets) 1 [] (nothing max_paths) taken dumps start gives in
+    sym (rows_paths file.paths) ∙ ap row_paths (sym rows ∙ all.rows) ∙ counted_paths (times (paths_in (all_wanted file.sets) dumps)) (distinct_paths (paths_in (all_wanted file.sets) dumps))
 
 paths_there : DumpLaw → (file other : ResultFile) (dumps dumps' : List (List ℕ)) → IsOfDumps file dumps → IsOfDumps other dumps' → other.sets ≡ file.sets →
     ((octets : List ℕ) → Contains dumps octets → Contains dumps' octets) → (path : List ℕ) → Contains (its_paths file) path → Contains (its_paths other) path
 paths_there law file other dumps dumps' of of' sets sub path c =
-    let here = distinct_there (paths_in file.sets dumps) path (subst (λ ps. Contains ps path) (paths_of_octets law file dumps of) c) in
-    let there = in_all file.sets dumps dumps' sub path here in
+    let here = distinct_there (paths_in (all_wanted file.sets) dumps) path (subst (λ ps. Contains ps path) (paths_of_octets law file dumps of) c) in
+    let there = in_all (all_wanted file.sets) dumps dumps' sub path here in
     subst (λ ps. Contains ps path) (sym (paths_of_octets law other dumps' of'))
-    (there_distinct (paths_in other.sets dumps') path (subst (λ (s : Sets). Contains (paths_in s dumps') path) (sym sets) there))
+    (there_distinct (paths_in (all_wanted other.sets) dumps') path (subst (λ (s : Sets). Contains (paths_in (all_wanted s) dumps') path) (sym sets) there))
 
 pub any_dump_order_law : DumpLaw → AnyOrderLaw → AnyDumpOrderLaw
 any_dump_order_law law any dumps dumps' file other accepts accepts' of of' same sets givens none =

@@ -39,6 +39,8 @@ use Rattle.run_laws.proofs.JoinedResults.{is_accepted, joined_vouched}
 use Rattle.tor_output.proofs.JoinedRows.{joined_rows}
 use Rattle.tor_output.proofs.Orderings.{joined_rows_too}
 use Rattle.tor_output.proofs.SomeOrders.{of_both}
+use Rattle.dump_read.specs.declared.wanted.Wanted.{Wanted}
+use Rattle.dump_read.specs.Wanted.{all_wanted}
 
 -- ---- what is determined
 
@@ -85,12 +87,12 @@ joined_seen settings earlier taken order = ap (λ (o : Order). ordered_behind o 
 pub of_dumps_law : BoundsLaw → OfDumpsLaw
 of_dumps_law bounds words settings files known taken file given gives faithful =
     let sees_all = sees settings files known taken file (bounds words settings given).most gives faithful in
-    let (dumps, hold) = octets_of file.sets 1 (nothing max_paths) (widened max_paths taken) (dumps_in settings) files sees_all in (
+    let (dumps, hold) = octets_of (all_wanted file.sets) 1 (nothing max_paths) (widened max_paths taken) (dumps_in settings) files sees_all in (
       dumps,
       hold,
       λ order. (
         widened max_paths taken,
-        sym (held file.sets 1 (nothing max_paths) (dumps_in settings) dumps files hold) ∙ sees_all,
+        sym (held (all_wanted file.sets) 1 (nothing max_paths) (dumps_in settings) dumps files hold) ∙ sees_all,
         sym (faithful.paths ∙ taken_seen settings taken order),
         sym faithful.its_counts,
       ),
@@ -98,20 +100,20 @@ of_dumps_law bounds words settings files known taken file given gives faithful =
     )
 
 -- under two limits that aren't met dumps give the same
-under_wider : (sets : Sets) (limit most : ℕ) (dumps : List (List ℕ)) (files : Files) (a b : Taken) → limit ≤ most → seen_from sets 1 (nothing limit) dumps files ≡ Ok a
-    → seen_from sets 1 (nothing most) dumps files ≡ Ok b → (a.table.rows ≡ b.table.rows) × (a.counts ≡ b.counts)
-under_wider sets limit most dumps files a b less gives gives' =
-    let wide = all_files limit most sets 1 (nothing limit) a dumps files (record { same = refl; few = omega arith; less = less }) gives in
-    let same : widened most a ≡ b = values.ok_is (seen_from sets 1 (nothing most) dumps files) (widened most a) b wide gives' in
+under_wider : (wanted : Wanted) (limit most : ℕ) (dumps : List (List ℕ)) (files : Files) (a b : Taken) → limit ≤ most → seen_from wanted 1 (nothing limit) dumps files ≡ Ok a
+    → seen_from wanted 1 (nothing most) dumps files ≡ Ok b → (a.table.rows ≡ b.table.rows) × (a.counts ≡ b.counts)
+under_wider wanted limit most dumps files a b less gives gives' =
+    let wide = all_files limit most wanted 1 (nothing limit) a dumps files (record { same = refl; few = omega arith; less = less }) gives in
+    let same : widened most a ≡ b = values.ok_is (seen_from wanted 1 (nothing most) dumps files) (widened most a) b wide gives' in
     (ap (λ (t : Taken). t.table.rows) same, ap (λ (t : Taken). t.counts) same)
 
-under_any : (sets : Sets) (limit other : ℕ) (dumps : List (List ℕ)) (files : Files) (a b : Taken) → seen_from sets 1 (nothing limit) dumps files ≡ Ok a
-    → seen_from sets 1 (nothing other) dumps files ≡ Ok b → (a.table.rows ≡ b.table.rows) × (a.counts ≡ b.counts)
-under_any sets limit other dumps files a b gives gives' = elim (cases_order limit other) [
-  | inl same ↦ under_wider sets limit other dumps files a b (omega (arith, same)) gives gives'
+under_any : (wanted : Wanted) (limit other : ℕ) (dumps : List (List ℕ)) (files : Files) (a b : Taken) → seen_from wanted 1 (nothing limit) dumps files ≡ Ok a
+    → seen_from wanted 1 (nothing other) dumps files ≡ Ok b → (a.table.rows ≡ b.table.rows) × (a.counts ≡ b.counts)
+under_any wanted limit other dumps files a b gives gives' = elim (cases_order limit other) [
+  | inl same ↦ under_wider wanted limit other dumps files a b (omega (arith, same)) gives gives'
   | inr o ↦ elim o [
-    | inl lt ↦ under_wider sets limit other dumps files a b (omega (arith, lt)) gives gives'
-    | inr gt ↦ let back = under_wider sets other limit dumps files b a (omega (arith, gt)) gives' gives in (sym back.0, sym back.1)
+    | inl lt ↦ under_wider wanted limit other dumps files a b (omega (arith, lt)) gives gives'
+    | inr gt ↦ let back = under_wider wanted other limit dumps files b a (omega (arith, gt)) gives' gives in (sym back.0, sym back.1)
   ]
 ]
 
@@ -120,12 +122,12 @@ as_of_one_run : (settings : Settings) (files : Files) (earlier : ResultFile) (ta
 as_of_one_run settings files earlier taken file few joins_to resumed before dumps order is_of hold whole other_files gave other order' sets ratio all sees said knows faithful =
     let (first, gives, first_rows, first_counts) = is_of in
     let (after, sees_both, rows, counts) =
-    dumps_of_both earlier settings.max_paths before dumps Some first taken few (by_octets earlier.sets 1 (nothing max_paths) before ∙ gives) first_rows first_counts
+    dumps_of_both earlier settings.max_paths before dumps Some first taken few (by_octets (all_wanted earlier.sets) 1 (nothing max_paths) before ∙ gives) first_rows first_counts
     (sym (joined_by earlier settings.max_paths (dumps_in settings) dumps files hold) ∙ joins_to) in
-    let sees_all : seen_from earlier.sets 1 (nothing whole.max_paths) (before ++ dumps) Some ≡ Ok gave =
-    sym (seen_by earlier.sets 1 (nothing whole.max_paths) (dumps_in whole) (before ++ dumps) other_files Some all)
-    ∙ subst (λ (s : Sets). seen_from s 1 (nothing whole.max_paths) (dumps_in whole) other_files ≡ Ok gave) sets sees in
-    let same = under_any earlier.sets whole.max_paths max_paths (before ++ dumps) Some gave after sees_all sees_both in
+    let sees_all : seen_from (all_wanted earlier.sets) 1 (nothing whole.max_paths) (before ++ dumps) Some ≡ Ok gave =
+    sym (seen_by (all_wanted earlier.sets) 1 (nothing whole.max_paths) (dumps_in whole) (before ++ dumps) other_files Some all)
+    ∙ subst (λ (s : Sets). seen_from (all_wanted s) 1 (nothing whole.max_paths) (dumps_in whole) other_files ≡ Ok gave) sets sees in
+    let same = under_any (all_wanted earlier.sets) whole.max_paths max_paths (before ++ dumps) Some gave after sees_all sees_both in
     one_result (known_for whole said gave) (known_joined settings earlier taken) whole.sets earlier.sets whole.ratio settings.ratio (paths_taken whole gave) (paths_joined settings earlier taken) gave.counts taken.counts file other
     knows sets ratio (taken_seen whole gave order' ∙ same.0 ∙ rows ∙ sym (joined_seen settings earlier taken order)) (same.1 ∙ counts) resumed.0 faithful
 
@@ -141,24 +143,24 @@ in_parts_law first second whole files later other_files earlier between file oth
     let mine = resumed.0 in
     let most = first.max_paths + second.max_paths + whole.max_paths in
     let gives_first = wider earlier first.max_paths most (dumps_in first) files some (omega arith) joins_some in
-    let gives_second : seen_from earlier.sets 1 (taken_up between most) (dumps_in second) later ≡ Ok (widened most rest) =
-    subst (λ (s : Sets). seen_from s 1 (taken_up between most) (dumps_in second) later ≡ Ok (widened most rest)) mine.its_sets
+    let gives_second : seen_from (all_wanted earlier.sets) 1 (taken_up between most) (dumps_in second) later ≡ Ok (widened most rest) =
+    subst (λ (s : Sets). seen_from (all_wanted s) 1 (taken_up between most) (dumps_in second) later ≡ Ok (widened most rest)) mine.its_sets
     (wider between second.max_paths most (dumps_in second) later rest (omega arith) joins_rest) in
     let gives_whole = wider earlier whole.max_paths most (dumps_in whole) other_files all (omega arith) joins_all in
-    let (one, hold_one) = octets_of earlier.sets 1 (taken_up earlier most) (widened most some) (dumps_in first) files gives_first in
-    let (two, hold_two) = octets_of earlier.sets 1 (taken_up between most) (widened most rest) (dumps_in second) later gives_second in
+    let (one, hold_one) = octets_of (all_wanted earlier.sets) 1 (taken_up earlier most) (widened most some) (dumps_in first) files gives_first in
+    let (two, hold_two) = octets_of (all_wanted earlier.sets) 1 (taken_up between most) (widened most rest) (dumps_in second) later gives_second in
     let both : map other_files (dumps_in whole) ≡ map Some (one ++ two) =
     dumps ∙ ap₂ (λ (x y : List (Option (List ℕ))). x ++ y) hold_one hold_two ∙ sym (map-append (λ (o : List ℕ). Some o) one two) in
-    let gives_some = sym (seen_by earlier.sets 1 (taken_up earlier most) (dumps_in first) one files Some hold_one) ∙ gives_first in
-    let gives_rest = sym (seen_by earlier.sets 1 (taken_up between most) (dumps_in second) two later Some hold_two) ∙ gives_second in
-    let gives_all = sym (seen_by earlier.sets 1 (taken_up earlier most) (dumps_in whole) (one ++ two) other_files Some both) ∙ gives_whole in
-    let on = behind earlier.sets 1 (taken_up earlier most) (widened most some) one two Some gives_some in
+    let gives_some = sym (seen_by (all_wanted earlier.sets) 1 (taken_up earlier most) (dumps_in first) one files Some hold_one) ∙ gives_first in
+    let gives_rest = sym (seen_by (all_wanted earlier.sets) 1 (taken_up between most) (dumps_in second) two later Some hold_two) ∙ gives_second in
+    let gives_all = sym (seen_by (all_wanted earlier.sets) 1 (taken_up earlier most) (dumps_in whole) (one ++ two) other_files Some both) ∙ gives_whole in
+    let on = behind (all_wanted earlier.sets) 1 (taken_up earlier most) (widened most some) one two Some gives_some in
     let same_some = made_of (widened most some) between most refl (sym (mine.paths ∙ joined_seen first earlier some order_first)) (sym mine.its_counts) in
-    let more = files_beside earlier.sets 1 on.0 some.files (taken_up between most) (widened most rest) two Some gives_rest in
-    let gives_both : seen_from earlier.sets 1 (taken_up earlier most) (one ++ two) Some ≡ Ok (beside more.0 (widened most rest)) =
-    on.1 ∙ ap (λ (t : Taken). seen_from earlier.sets on.0 t two Some) same_some ∙ more.1 in
+    let more = files_beside (all_wanted earlier.sets) 1 on.0 some.files (taken_up between most) (widened most rest) two Some gives_rest in
+    let gives_both : seen_from (all_wanted earlier.sets) 1 (taken_up earlier most) (one ++ two) Some ≡ Ok (beside more.0 (widened most rest)) =
+    on.1 ∙ ap (λ (t : Taken). seen_from (all_wanted earlier.sets) on.0 t two Some) same_some ∙ more.1 in
     let same : widened most all ≡ beside more.0 (widened most rest) =
-    values.ok_is (seen_from earlier.sets 1 (taken_up earlier most) (one ++ two) Some) (widened most all) (beside more.0 (widened most rest)) gives_all gives_both in
+    values.ok_is (seen_from (all_wanted earlier.sets) 1 (taken_up earlier most) (one ++ two) Some) (widened most all) (beside more.0 (widened most rest)) gives_all gives_both in
     one_result (known_joined whole earlier all) (known_joined second between rest) earlier.sets between.sets whole.ratio second.ratio (paths_joined whole earlier all) (paths_joined second between rest) all.counts rest.counts file other
     (no_top whole earlier all whole_top ∙ sym (mine.its_givens ∙ no_top first earlier some first_top) ∙ sym (no_top second between rest second_top)) (sym mine.its_sets) ratio
     (joined_seen whole earlier all order_whole ∙ ap (λ (t : Taken). t.table.rows) same ∙ sym (joined_seen second between rest order_second)) (ap (λ (t : Taken). t.counts) same) resumed_again.0 resumed_all.0
@@ -210,6 +212,6 @@ acceptance_law bounds accept law words settings files earlier taken file text gi
         let same : both.dumps ≡ dumps = same_dumps dumps hold in
         let (gave, sees, its_rows_are, its_counts_are) = both.as_seen order before is_of in
         let sees_later : seen_for file names later ≡ Ok gave =
-        held file.sets 1 (nothing max_paths) names (before ++ dumps) later all
-        ∙ subst (λ (ds : List (List ℕ)). seen_of file.sets 1 (nothing max_paths) (before ++ ds) ≡ Ok gave) same sees in
+        held (all_wanted file.sets) 1 (nothing max_paths) names (before ++ dumps) later all
+        ∙ subst (λ (ds : List (List ℕ)). seen_of (all_wanted file.sets) 1 (nothing max_paths) (before ++ ds) ≡ Ok gave) same sees in
         agreed_beside law false later file text accepted names gave sees_later (sym its_counts_are, sym its_rows_are)

@@ -32,6 +32,7 @@ use Rattle.tor_output.proofs.SeenLemmas.{made_of_files}
 use Rattle.tor_output.proofs.WiderLimit.{widened, all_files}
 use Rattle.tor_output.proofs.Joining as joining
 use Rattle.run_laws.specs.SelfGrading.{SelfGradingLaw}
+use Rattle.dump_read.specs.Wanted.{all_wanted}
 
 -- ---- the grades of paths
 
@@ -81,10 +82,10 @@ same_taken : (a b : Taken) → ◌≡◌ {A = Result Taken DumpsEnd} (Ok a) (Ok 
 same_taken a b e = cc
 
 sees_all : (settings : Settings) (files : Files) (taken : Taken) (dumps : List (List ℕ)) → settings.max_paths ≤ max_paths → settings.sets ≡ Cut →
-    seen_from settings.sets 1 (nothing settings.max_paths) dumps files ≡ Ok taken → seen_from Cut 1 (nothing max_paths) dumps files ≡ Ok (widened max_paths taken)
+    seen_from (all_wanted settings.sets) 1 (nothing settings.max_paths) dumps files ≡ Ok taken → seen_from (all_wanted Cut) 1 (nothing max_paths) dumps files ≡ Ok (widened max_paths taken)
 sees_all settings files taken dumps few cut sees =
-    all_files settings.max_paths max_paths Cut 1 (nothing settings.max_paths) taken dumps files (record { same = refl; few = omega arith; less = few })
-    (subst (λ (s : Sets). seen_from s 1 (nothing settings.max_paths) dumps files ≡ Ok taken) cut sees)
+    all_files settings.max_paths max_paths (all_wanted Cut) 1 (nothing settings.max_paths) taken dumps files (record { same = refl; few = omega arith; less = few })
+    (subst (λ (s : Sets). seen_from (all_wanted s) 1 (nothing settings.max_paths) dumps files ≡ Ok taken) cut sees)
 
 -- each path stands in the order of the run, too
 taken_there : (settings : Settings) (taken : Taken) (path : List ℕ) → Contains (row_paths taken.table.rows) path → Contains (row_paths (paths_taken settings taken)) path
@@ -96,7 +97,7 @@ taken_there settings taken path there =
 
 pub self_grading : BoundsLaw → SelfGradingLaw
 self_grading bounds words settings files known taken rel given serial cut comes_to exact grade_words grading later text graded_given there dumps basis note gives is =
-    let sees = joining.seen_by settings.sets 1 (nothing settings.max_paths) grading.dumps (dumps_in settings) later files dumps
+    let sees = joining.seen_by (all_wanted settings.sets) 1 (nothing settings.max_paths) grading.dumps (dumps_in settings) later files dumps
     ∙ made_of_files settings.job Serial settings files taken serial comes_to.1 in
     let bytes_same : gives.0.0 ≡ rel = same_Some gives.0.0 rel (sym gives.0.1.there ∙ there) in
     let lines_same : basis.rel ≡ exact.lines = same_lines basis.rel exact.lines (sym gives.0.2 ∙ ap rel_in bytes_same ∙ exact.read) in

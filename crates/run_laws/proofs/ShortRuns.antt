@@ -36,23 +36,25 @@ use Rattle.tor_output.proofs.ReadableLemmas.{dumps_readable}
 use Rattle.tor_output.proofs.SeenLemmas.{dumps_law}
 use Rattle.run_laws.specs.ShortLaws.{MeetsLimit, ShortLaw, ShortLimitLaw}
 use Rattle.run_laws.proofs.ResumeLemmas.{one_result}
+use Rattle.dump_read.specs.declared.wanted.Wanted.{Wanted}
+use Rattle.dump_read.specs.Wanted.{all_wanted, file_routes}
 
 -- ---- one answer
 
 -- what is taken in is of the routes of these dumps
 of_these : (settings : Settings) (files : Files) (dumps : List (List ℕ)) (taken : Taken) → Hold files (dumps_in settings) dumps → seen settings files ≡ Ok taken
-    → IsTakenOf settings.sets (routes_in_files dumps) taken
+    → IsTakenOf settings.sets (routes_in_files (all_wanted settings.sets) dumps) taken
 of_these settings files dumps taken hold sees =
-    let all = dumps_law settings.sets settings.max_paths (dumps_in settings) files taken sees in
-    subst (λ (ds : List (List ℕ)). IsTakenOf settings.sets (routes_in_files ds) taken) (same_octets all.octets dumps (sym all.there ∙ hold)) all.routes
+    let all = dumps_law (all_wanted settings.sets) settings.max_paths (dumps_in settings) files taken sees in
+    subst (λ (ds : List (List ℕ)). IsTakenOf settings.sets (routes_in_files (all_wanted settings.sets) ds) taken) (same_octets all.octets dumps (sym all.there ∙ hold)) all.routes
 
 pub short_law : ShortLaw
 short_law settings other files later taken taken' alike sees sees' =
-    let routes = routes_in_files alike.dumps in
-    let others = routes_in_files alike.others in
+    let routes = routes_in_files (all_wanted settings.sets) alike.dumps in
+    let others = routes_in_files (all_wanted settings.sets) alike.others in
     let is = one_order_law.of_routes settings.sets routes taken (of_these settings files alike.dumps taken alike.hold sees) in
     let is' = one_order_law.of_routes settings.sets others taken'
-    (subst (λ (s : Sets). IsTakenOf s others taken') alike.sets (of_these other later alike.others taken' alike.hold_too sees')) in
+    (subst (λ (s : Sets). IsTakenOf s (routes_in_files (all_wanted s) alike.others) taken') alike.sets (of_these other later alike.others taken' alike.hold_too sees')) in
     let same = one_order_law.same settings.sets routes others taken taken' alike.same is is' in
     let paths : paths_taken other taken' ≡ paths_taken settings taken =
     ap (λ (o : Order). ordered o taken'.table.rows) alike.short_too ∙ sym same.order ∙ ap (λ (o : Order). ordered o taken.table.rows) (sym alike.short) in
@@ -89,33 +91,33 @@ all_routes sets old (route ∷ routes) kind e = by (take_route sets old route) r
     by (Ok further) is e rest = rest further e
     by (Err other) is e rest = let same : other ≡ kind = cc in subst (λ k. k ≢ Bytes) same (one_cleaned old (clean_of sets route.width route.attrs) other is)
 
-one_dump : (sets : Sets) (dump : ℕ) (old : Taken) (octets : List ℕ) (end : DumpsEnd) → IsWhole octets → of_octets sets dump old octets ≡ Err end → MeetsLimit end
-one_dump sets dump old octets end whole e = by (take_routes sets old (file_reading octets).routes) refl (file_reading octets).end whole e
+one_dump : (wanted : Wanted) (dump : ℕ) (old : Taken) (octets : List ℕ) (end : DumpsEnd) → IsWhole octets → of_octets wanted dump old octets ≡ Err end → MeetsLimit end
+one_dump wanted dump old octets end whole e = by (take_routes wanted.sets old (file_routes wanted octets)) refl (file_reading octets).end whole e
   where
-    by : (took : Result Taken LimitKind) → take_routes sets old (file_reading octets).routes ≡ took → (its_end : FileEnd) → its_end ≡ Whole
-        → (of_taking dump took >>= λ all. of_end dump its_end (with_file octets all)) ≡ Err end → MeetsLimit end
+    by : (took : Result Taken LimitKind) → take_routes wanted.sets old (file_routes wanted octets) ≡ took → (its_end : FileEnd) → its_end ≡ Whole
+        → (of_taking dump took >>= λ all. of_end dump its_end (with_file wanted octets all)) ≡ Err end → MeetsLimit end
     by (Ok all) is its_end w e =
-        absurd (no_end (subst (λ (f : FileEnd). of_end dump f (with_file octets all) ≡ Err end) w e))
+        absurd (no_end (subst (λ (f : FileEnd). of_end dump f (with_file wanted octets all) ≡ Err end) w e))
       where
-        no_end : ◌≡◌ {A = Result Taken DumpsEnd} (Ok (with_file octets all)) (Err end) → ⊥
+        no_end : ◌≡◌ {A = Result Taken DumpsEnd} (Ok (with_file wanted octets all)) (Err end) → ⊥
         no_end e = cc
     by (Err kind) is its_end w e =
-        record { kind = kind; dump = dump; of_paths = all_routes sets old (file_reading octets).routes kind is; is = same e }
+        record { kind = kind; dump = dump; of_paths = all_routes wanted.sets old (file_routes wanted octets) kind is; is = same e }
       where
         same : ◌≡◌ {A = Result Taken DumpsEnd} (Err (Limit kind dump)) (Err end) → end ≡ Limit kind dump
         same e = cc
 
 -- dumps that can be read to their ends have no other end
-meets : (sets : Sets) (dump : ℕ) (old : Taken) (dumps : List (List ℕ)) (end : DumpsEnd) → All IsWhole dumps → seen_of sets dump old dumps ≡ Err end → MeetsLimit end
-meets sets dump old [] end whole e = absurd (cc e)
-meets sets dump old (octets ∷ dumps) end whole e =
-    by (of_octets sets dump old octets) refl e (λ further. meets sets (dump + 1) further dumps end (All-tail IsWhole octets dumps whole))
+meets : (wanted : Wanted) (dump : ℕ) (old : Taken) (dumps : List (List ℕ)) (end : DumpsEnd) → All IsWhole dumps → seen_of wanted dump old dumps ≡ Err end → MeetsLimit end
+meets wanted dump old [] end whole e = absurd (cc e)
+meets wanted dump old (octets ∷ dumps) end whole e =
+    by (of_octets wanted dump old octets) refl e (λ further. meets wanted (dump + 1) further dumps end (All-tail IsWhole octets dumps whole))
   where
-    by : (one : Result Taken DumpsEnd) → of_octets sets dump old octets ≡ one → (one >>= λ further. seen_of sets (dump + 1) further dumps) ≡ Err end
-        → ((further : Taken) → seen_of sets (dump + 1) further dumps ≡ Err end → MeetsLimit end) → MeetsLimit end
+    by : (one : Result Taken DumpsEnd) → of_octets wanted dump old octets ≡ one → (one >>= λ further. seen_of wanted (dump + 1) further dumps) ≡ Err end
+        → ((further : Taken) → seen_of wanted (dump + 1) further dumps ≡ Err end → MeetsLimit end) → MeetsLimit end
     by (Ok further) is e rest = rest further e
     by (Err other) is e rest =
-        subst MeetsLimit (same e) (one_dump sets dump old octets other (All-head IsWhole octets dumps whole) is)
+        subst MeetsLimit (same e) (one_dump wanted dump old octets other (All-head IsWhole octets dumps whole) is)
       where
         same : ◌≡◌ {A = Result Taken DumpsEnd} (Err other) (Err end) → other ≡ end
         same e = cc
@@ -123,14 +125,14 @@ meets sets dump old (octets ∷ dumps) end whole e =
 its_end : (settings : Settings) (files : Files) (dumps : List (List ℕ)) (end : DumpsEnd) → Hold files (dumps_in settings) dumps → All IsWhole dumps → seen settings files ≡ Err end
     → MeetsLimit end
 its_end settings files dumps end hold whole e =
-    meets settings.sets 1 (nothing settings.max_paths) dumps end whole
-    (sym (held settings.sets 1 (nothing settings.max_paths) (dumps_in settings) dumps files hold) ∙ e)
+    meets (all_wanted settings.sets) 1 (nothing settings.max_paths) dumps end whole
+    (sym (held (all_wanted settings.sets) 1 (nothing settings.max_paths) (dumps_in settings) dumps files hold) ∙ e)
 
 fits : (settings : Settings) (files : Files) (dumps : List (List ℕ)) (taken : Taken) → Hold files (dumps_in settings) dumps → seen settings files ≡ Ok taken
-    → Fit settings.max_paths (cleaned_paths settings.sets (routes_in_files dumps))
+    → Fit settings.max_paths (cleaned_paths settings.sets (routes_in_files (all_wanted settings.sets) dumps))
 fits settings files dumps taken hold sees =
-    let all = (dumps_readable settings.sets settings.max_paths (dumps_in settings) files).0 (taken, sees) in
-    subst (λ (ds : List (List ℕ)). Fit settings.max_paths (cleaned_paths settings.sets (routes_in_files ds))) (same_octets all.octets dumps (sym all.there ∙ hold)) all.fit
+    let all = (dumps_readable (all_wanted settings.sets) settings.max_paths (dumps_in settings) files).0 (taken, sees) in
+    subst (λ (ds : List (List ℕ)). Fit settings.max_paths (cleaned_paths settings.sets (routes_in_files (all_wanted settings.sets) ds))) (same_octets all.octets dumps (sym all.there ∙ hold)) all.fit
 
 pub short_limit_law : ShortLimitLaw
 short_limit_law settings other files later end alike whole whole' e = (
@@ -142,13 +144,13 @@ short_limit_law settings other files later end alike whole whole' e = (
     sees_all : (taken' : Taken) → seen other later ≡ Ok taken' → (taken : Taken) × (seen settings files ≡ Ok taken)
     sees_all taken' sees' =
         let fit' = fits other later alike.others taken' alike.hold_too sees' in
-        let fit = subst (λ n. Fit n (cleaned_paths settings.sets (routes_in_files alike.others))) alike.limit
-        (subst (λ (s : Sets). Fit other.max_paths (cleaned_paths s (routes_in_files alike.others))) alike.sets fit') in
-        (dumps_readable settings.sets settings.max_paths (dumps_in settings) files).1 (record {
+        let fit = subst (λ n. Fit n (cleaned_paths settings.sets (routes_in_files (all_wanted settings.sets) alike.others))) alike.limit
+        (subst (λ (s : Sets). Fit other.max_paths (cleaned_paths s (routes_in_files (all_wanted s) alike.others))) alike.sets fit') in
+        (dumps_readable (all_wanted settings.sets) settings.max_paths (dumps_in settings) files).1 (record {
           octets = alike.dumps;
           there = alike.hold;
           whole = whole;
-          fit = (fit_law settings.sets settings.max_paths (routes_in_files alike.dumps) (routes_in_files alike.others) alike.same).1 fit;
+          fit = (fit_law settings.sets settings.max_paths (routes_in_files (all_wanted settings.sets) alike.dumps) (routes_in_files (all_wanted settings.sets) alike.others) alike.same).1 fit;
         })
 
     not_both : {X : Type 0} (r : Result Taken DumpsEnd) (taken : Taken) → r ≡ Ok taken → r ≡ Err end → X

@@ -16,6 +16,7 @@ use Rattle.tor_output.specs.Resuming.{Hold}
 use Rattle.tor_output.specs.Seen.{seen}
 use Rattle.tor_output.specs.SeenLaw.{IsWhole}
 use Rattle.run_laws.specs.ResumeLaws.{AreSameButEvidence}
+use Rattle.dump_read.specs.Wanted.{all_wanted}
 
 -- two runs, each over its own dumps, take the shortest paths first, with the same sets, ratio, limit and top, and their dumps give the same
 -- routes, in whatever order these come, and however they are cut into records and dumps
@@ -30,7 +31,7 @@ pub record GiveSameRoutes (settings other : Settings) (files later : Files) : Ty
   pub others : List (List ℕ)
   pub hold : Hold files (dumps_in settings) dumps
   pub hold_too : Hold later (dumps_in other) others
-  pub same : DumpsGiveSame settings.sets dumps others
+  pub same : DumpsGiveSame (all_wanted settings.sets) dumps others
 
 -- where both see all their dumps, they have the same paths with the same times in the same order, the same counts, and with the same known
 -- relationships the same result in all but its evidence

@@ -1,4 +1,5 @@
 -- What dumps give is as a table of paths has it, and a result of it is accepted.
+use Rattle.dump_read.specs.Wanted.{all_wanted}
 use Rattle.std.proofs.Common.{◌≡◌, ℕ, List, [], ◌∷◌, map, Option, Some, None, refl, sym, ap₂, subst, arith}
 use Rattle.dump_read.specs.Laws.{Fit, cleaned_paths, routes_in_files}
 use Rattle.as_rel.specs.declared.givens.KnownLines.{KnownLines}
@@ -42,9 +43,9 @@ table_law bounds words settings files known taken given comes =
     let seen = seen_law settings files taken comes.1 in
     let all = (readable settings files).0 (taken, comes.1) in
     let same = same_octets all.octets seen.octets (subst (λ ds. ds ≡ map Some seen.octets) all.there seen.there) in
-    let fit : Fit settings.max_paths (cleaned_paths settings.sets (routes_in_files seen.octets)) =
-    subst (λ (os : List (List ℕ)). Fit settings.max_paths (cleaned_paths settings.sets (routes_in_files os))) same all.fit in (
-      subst AreTableRows (sym seen.routes.rows) (counted_rows settings.sets (routes_in_files seen.octets) settings.max_paths (bounds words settings given).most fit),
+    let fit : Fit settings.max_paths (cleaned_paths settings.sets (routes_in_files (all_wanted settings.sets) seen.octets)) =
+    subst (λ (os : List (List ℕ)). Fit settings.max_paths (cleaned_paths settings.sets (routes_in_files (all_wanted settings.sets) os))) same all.fit in (
+      subst AreTableRows (sym seen.routes.rows) (counted_rows settings.sets (routes_in_files (all_wanted settings.sets) seen.octets) settings.max_paths (bounds words settings given).most fit),
       givens_sound (first_in settings) files known comes.0,
     )
 

@@ -27,7 +27,6 @@ use Rattle.tor_io.specs.Contents.{Files}
 use Rattle.dump_read.specs.declared.error.LimitKind.{LimitKind}
 use Rattle.dump_read.specs.declared.taking.Taken.{Taken}
 use Rattle.dump_read.specs.Files.{with_file}
-use Rattle.dump_read.specs.Reading.{file_reading}
 use Rattle.dump_read.specs.Routes.{Route}
 use Rattle.dump_read.specs.Seen.{DumpsEnd, of_file}
 use Rattle.dump_read.specs.Taking.{with_one, has_too_many_numbers, take_path, take_cleaned, take_route, take_routes, Takes}
@@ -46,6 +45,8 @@ use Rattle.tor_output.proofs.Joining.{joins}
 use Rattle.tor_output.proofs.ReadableLemmas.{one_taken}
 use Rattle.tor_output.proofs.SeenLemmas.{same}
 use Rattle.tor_output.proofs.TableRows.{eq_true, eq_flip, has, both, parts}
+use Rattle.dump_read.specs.declared.wanted.Wanted.{Wanted}
+use Rattle.dump_read.specs.Wanted.{all_wanted, file_routes}
 
 -- ---- the paths of a result
 
@@ -276,22 +277,22 @@ all_routes sets (route ∷ routes) old new is e = by (take_route sets old route)
     by (Ok further) takes e rest = rest further (one_route sets old further route is takes) e
     by (Err kind) takes e rest = absurd cc
 
-one_file : (sets : Sets) (dump : ℕ) (old new : Taken) (file : Option (List ℕ)) → IsTable old → of_file sets dump old file ≡ Ok new → IsTable new
-one_file sets dump old new None is e = absurd cc
-one_file sets dump old new (Some octets) is e =
-    let took = one_taken sets dump octets old new e in
-    let all = all_routes sets (file_reading octets).routes old took.all is took.takes in
-    let counted : IsTable (with_file octets took.all) = record { rows = all.rows; within = all.within; most = all.most } in
+one_file : (wanted : Wanted) (dump : ℕ) (old new : Taken) (file : Option (List ℕ)) → IsTable old → of_file wanted dump old file ≡ Ok new → IsTable new
+one_file wanted dump old new None is e = absurd cc
+one_file wanted dump old new (Some octets) is e =
+    let took = one_taken wanted dump octets old new e in
+    let all = all_routes wanted.sets (file_routes wanted octets) old took.all is took.takes in
+    let counted : IsTable (with_file wanted octets took.all) = record { rows = all.rows; within = all.within; most = all.most } in
     subst IsTable took.same counted
 
-pub all_files : (sets : Sets) (dump : ℕ) (old new : Taken) (names : List (List ℕ)) (files : Files) → IsTable old → seen_from sets dump old names files ≡ Ok new → IsTable new
-all_files sets dump old new [] files is e = subst IsTable (same old new e) is
-all_files sets dump old new (name ∷ names) files is e =
-    by (of_file sets dump old (files name)) refl e (λ further. all_files sets (dump + 1) further new names files)
+pub all_files : (wanted : Wanted) (dump : ℕ) (old new : Taken) (names : List (List ℕ)) (files : Files) → IsTable old → seen_from wanted dump old names files ≡ Ok new → IsTable new
+all_files wanted dump old new [] files is e = subst IsTable (same old new e) is
+all_files wanted dump old new (name ∷ names) files is e =
+    by (of_file wanted dump old (files name)) refl e (λ further. all_files wanted (dump + 1) further new names files)
   where
-    by : (one : Result Taken DumpsEnd) → of_file sets dump old (files name) ≡ one → (one >>= λ further. seen_from sets (dump + 1) further names files) ≡ Ok new
-        → ((further : Taken) → IsTable further → seen_from sets (dump + 1) further names files ≡ Ok new → IsTable new) → IsTable new
-    by (Ok further) gives e rest = rest further (one_file sets dump old further (files name) is gives) e
+    by : (one : Result Taken DumpsEnd) → of_file wanted dump old (files name) ≡ one → (one >>= λ further. seen_from wanted (dump + 1) further names files) ≡ Ok new
+        → ((further : Taken) → IsTable further → seen_from wanted (dump + 1) further names files ≡ Ok new → IsTable new) → IsTable new
+    by (Ok further) gives e rest = rest further (one_file wanted dump old further (files name) is gives) e
     by (Err end) gives e rest = absurd cc
 
 -- on top of a result that meets the rules
@@ -302,4 +303,4 @@ joined_rows earlier limit dumps files taken most accepted e =
     let few = joining.0 in
     let many : length (row_paths (its_rows earlier)) ≡ length earlier.paths = ap length (paths_in earlier.paths) ∙ length-map earlier.paths path_of in
     let begun : IsTable (taken_up earlier limit) = record { rows = accepted_rows earlier accepted; within = omega (arith, few, many); most = most } in
-    (all_files earlier.sets 1 (taken_up earlier limit) taken dumps files begun joining.1).rows
+    (all_files (all_wanted earlier.sets) 1 (taken_up earlier limit) taken dumps files begun joining.1).rows

@@ -29,6 +29,8 @@ use Rattle.tor_output.specs.Sampling.{sample_of}
 use Rattle.tor_output.specs.Seen.{seen_beside}
 use Rattle.tor_output.specs.SeenLaw.{AreReadable, IsWhole, DumpsReadableLaw, ReadableLaw, dumps_beside}
 use Rattle.tor_output.proofs.SeenLemmas.{same, dumps_law, sample_file, as_dump}
+use Rattle.dump_read.specs.declared.wanted.Wanted.{Wanted}
+use Rattle.dump_read.specs.Wanted.{all_wanted, file_routes}
 
 -- ---- the counts of files play no part in what is taken in
 
@@ -101,9 +103,9 @@ join sets (route ∷ first) rest old mid new e takes = by (take_route sets old r
 -- ---- dumps that are seen are taken in at once
 
 -- a dump is seen where its routes are taken in and it is whole
-pub one_seen : (sets : Sets) (dump : ℕ) (octets : List ℕ) (old new : Taken) → IsWhole octets → Takes sets old (file_reading octets).routes new
-    → of_file sets dump old (Some octets) ≡ Ok (with_file octets new)
-one_seen sets dump octets old new whole takes = rw takes (rw whole refl)
+pub one_seen : (wanted : Wanted) (dump : ℕ) (octets : List ℕ) (old new : Taken) → IsWhole octets → Takes wanted.sets old (file_routes wanted octets) new
+    → of_file wanted dump old (Some octets) ≡ Ok (with_file wanted octets new)
+one_seen wanted dump octets old new whole takes = rw takes (rw whole refl)
 
 first_there : (files : Files) (name : List ℕ) (names : List (List ℕ)) (o : List ℕ) (octets : List (List ℕ)) → map files (name ∷ names) ≡ map Some (o ∷ octets)
     → files name ≡ Some o
@@ -113,55 +115,55 @@ others_there : (files : Files) (name : List ℕ) (names : List (List ℕ)) (o : 
     → map files names ≡ map Some octets
 others_there files name names o octets e = cc
 
-are_seen : (sets : Sets) (dump : ℕ) (names octets : List (List ℕ)) (files : Files) (old new : Taken) → map files names ≡ map Some octets → All IsWhole octets
-    → Takes sets old (routes_in_files octets) new → (taken : Taken) × (seen_from sets dump old names files ≡ Ok taken)
-are_seen sets dump [] octets files old new there whole takes = (old, refl)
-are_seen sets dump (name ∷ names) [] files old new there whole takes = absurd cc
-are_seen sets dump (name ∷ names) (o ∷ octets) files old new there whole takes =
-    let both = split sets (file_reading o).routes (routes_in_files octets) old new takes in
-    let here = one_seen sets dump o old both.mid (All-head IsWhole o octets whole) both.takes_first in
-    let held = with_file o both.mid in
-    let rest = are_seen sets (dump + 1) names octets files held (beside held.files new) (others_there files name names o octets there) (All-tail IsWhole o octets whole)
-    (routes_beside sets held.files (routes_in_files octets) both.mid new both.takes_rest) in
+are_seen : (wanted : Wanted) (dump : ℕ) (names octets : List (List ℕ)) (files : Files) (old new : Taken) → map files names ≡ map Some octets → All IsWhole octets
+    → Takes wanted.sets old (routes_in_files wanted octets) new → (taken : Taken) × (seen_from wanted dump old names files ≡ Ok taken)
+are_seen wanted dump [] octets files old new there whole takes = (old, refl)
+are_seen wanted dump (name ∷ names) [] files old new there whole takes = absurd cc
+are_seen wanted dump (name ∷ names) (o ∷ octets) files old new there whole takes =
+    let both = split wanted.sets (file_routes wanted o) (routes_in_files wanted octets) old new takes in
+    let here = one_seen wanted dump o old both.mid (All-head IsWhole o octets whole) both.takes_first in
+    let held = with_file wanted o both.mid in
+    let rest = are_seen wanted (dump + 1) names octets files held (beside held.files new) (others_there files name names o octets there) (All-tail IsWhole o octets whole)
+    (routes_beside wanted.sets held.files (routes_in_files wanted octets) both.mid new both.takes_rest) in
     (rest.0, rw (first_there files name names o octets there) (rw here rest.1))
 
 -- a dump that was seen is whole, and its routes were taken in
-pub record IsTaken (sets : Sets) (octets : List ℕ) (old new : Taken) : Type 0 where
+pub record IsTaken (wanted : Wanted) (octets : List ℕ) (old new : Taken) : Type 0 where
   pub all : Taken
-  pub takes : Takes sets old (file_reading octets).routes all
-  pub same : with_file octets all ≡ new
+  pub takes : Takes wanted.sets old (file_routes wanted octets) all
+  pub same : with_file wanted octets all ≡ new
 
-pub one_taken : (sets : Sets) (dump : ℕ) (octets : List ℕ) (old new : Taken) → of_file sets dump old (Some octets) ≡ Ok new → IsTaken sets octets old new
-one_taken sets dump octets old new e = by (take_routes sets old (file_reading octets).routes) refl (file_reading octets).end e
+pub one_taken : (wanted : Wanted) (dump : ℕ) (octets : List ℕ) (old new : Taken) → of_file wanted dump old (Some octets) ≡ Ok new → IsTaken wanted octets old new
+one_taken wanted dump octets old new e = by (take_routes wanted.sets old (file_routes wanted octets)) refl (file_reading octets).end e
   where
-    by : (taking : Result Taken LimitKind) → take_routes sets old (file_reading octets).routes ≡ taking → (end : FileEnd)
-        → (of_taking dump taking >>= λ all. of_end dump end (with_file octets all)) ≡ Ok new → IsTaken sets octets old new
+    by : (taking : Result Taken LimitKind) → take_routes wanted.sets old (file_routes wanted octets) ≡ taking → (end : FileEnd)
+        → (of_taking dump taking >>= λ all. of_end dump end (with_file wanted octets all)) ≡ Ok new → IsTaken wanted octets old new
     by (Err kind) takes end e = absurd cc
     by (Ok all) takes (Broken at fault) e = absurd cc
     by (Ok all) takes TooLong e = absurd cc
-    by (Ok all) takes Whole e = record { all = all; takes = takes; same = same (with_file octets all) new e }
+    by (Ok all) takes Whole e = record { all = all; takes = takes; same = same (with_file wanted octets all) new e }
 
-are_taken : (sets : Sets) (dump : ℕ) (names octets : List (List ℕ)) (files : Files) (old taken : Taken) → map files names ≡ map Some octets
-    → seen_from sets dump old names files ≡ Ok taken → (new : Taken) × Takes sets old (routes_in_files octets) new
+are_taken : (wanted : Wanted) (dump : ℕ) (names octets : List (List ℕ)) (files : Files) (old taken : Taken) → map files names ≡ map Some octets
+    → seen_from wanted dump old names files ≡ Ok taken → (new : Taken) × Takes wanted.sets old (routes_in_files wanted octets) new
 unfolding take_routes
-are_taken sets dump [] [] files old taken there e = (old, refl)
-are_taken sets dump [] (o ∷ octets) files old taken there e = absurd cc
-are_taken sets dump (name ∷ names) [] files old taken there e = absurd cc
-are_taken sets dump (name ∷ names) (o ∷ octets) files old taken there e =
-    by (of_file sets dump old (files name)) (ap (of_file sets dump old) (sym (first_there files name names o octets there))) e
-    (λ further. are_taken sets (dump + 1) names octets files further taken (others_there files name names o octets there))
+are_taken wanted dump [] [] files old taken there e = (old, refl)
+are_taken wanted dump [] (o ∷ octets) files old taken there e = absurd cc
+are_taken wanted dump (name ∷ names) [] files old taken there e = absurd cc
+are_taken wanted dump (name ∷ names) (o ∷ octets) files old taken there e =
+    by (of_file wanted dump old (files name)) (ap (of_file wanted dump old) (sym (first_there files name names o octets there))) e
+    (λ further. are_taken wanted (dump + 1) names octets files further taken (others_there files name names o octets there))
   where
-    by : (one : Result Taken DumpsEnd) → of_file sets dump old (Some o) ≡ one → (one >>= λ further. seen_from sets (dump + 1) further names files) ≡ Ok taken
-        → ((further : Taken) → seen_from sets (dump + 1) further names files ≡ Ok taken → (new : Taken) × Takes sets further (routes_in_files octets) new)
-        → (new : Taken) × Takes sets old (routes_in_files (o ∷ octets)) new
+    by : (one : Result Taken DumpsEnd) → of_file wanted dump old (Some o) ≡ one → (one >>= λ further. seen_from wanted (dump + 1) further names files) ≡ Ok taken
+        → ((further : Taken) → seen_from wanted (dump + 1) further names files ≡ Ok taken → (new : Taken) × Takes wanted.sets further (routes_in_files wanted octets) new)
+        → (new : Taken) × Takes wanted.sets old (routes_in_files wanted (o ∷ octets)) new
     by (Err end) is e ih = absurd cc
     by (Ok further) is e ih =
-        let here = one_taken sets dump o old further is in
+        let here = one_taken wanted dump o old further is in
         let more = ih further e in
-        let behind : Takes sets here.all (routes_in_files octets) (beside here.all.files more.0) =
-        subst (λ (t : Taken). Takes sets (beside here.all.files t) (routes_in_files octets) (beside here.all.files more.0)) (sym here.same)
-        (routes_beside sets here.all.files (routes_in_files octets) further more.0 more.1) in
-        (beside here.all.files more.0, join sets (file_reading o).routes (routes_in_files octets) old here.all (beside here.all.files more.0) here.takes behind)
+        let behind : Takes wanted.sets here.all (routes_in_files wanted octets) (beside here.all.files more.0) =
+        subst (λ (t : Taken). Takes wanted.sets (beside here.all.files t) (routes_in_files wanted octets) (beside here.all.files more.0)) (sym here.same)
+        (routes_beside wanted.sets here.all.files (routes_in_files wanted octets) further more.0 more.1) in
+        (beside here.all.files more.0, join wanted.sets (file_routes wanted o) (routes_in_files wanted octets) old here.all (beside here.all.files more.0) here.takes behind)
 
 -- ---- a run
 
@@ -169,33 +171,33 @@ none_fit : (limit : ℕ) → Fit limit []
 none_fit limit = record { paths_few = omega arith; numbers_few = omega arith }
 
 pub dumps_readable : DumpsReadableLaw
-dumps_readable sets limit names files = (λ seen. forth seen.0 seen.1, λ readable. back readable)
+dumps_readable wanted limit names files = (λ seen. forth seen.0 seen.1, λ readable. back readable)
   where
-    first : IsTakenOf sets [] (nothing limit)
-    first = taking.nothing sets (nothing limit) (record { rows = refl; counts = refl })
+    first : IsTakenOf wanted.sets [] (nothing limit)
+    first = taking.nothing wanted.sets (nothing limit) (record { rows = refl; counts = refl })
 
-    forth : (taken : Taken) → seen_from sets 1 (nothing limit) names files ≡ Ok taken → AreReadable sets limit (map files names)
+    forth : (taken : Taken) → seen_from wanted 1 (nothing limit) names files ≡ Ok taken → AreReadable wanted limit (map files names)
     forth taken e =
-        let seen = dumps_law sets limit names files taken e in
+        let seen = dumps_law wanted limit names files taken e in
         record {
           octets = seen.octets;
           there = seen.there;
           whole = seen.whole;
-          fit = (fitting sets [] (routes_in_files seen.octets) (nothing limit) first (none_fit limit)).0
-              (are_taken sets 1 names seen.octets files (nothing limit) taken seen.there e);
+          fit = (fitting wanted.sets [] (routes_in_files wanted seen.octets) (nothing limit) first (none_fit limit)).0
+              (are_taken wanted 1 names seen.octets files (nothing limit) taken seen.there e);
         }
 
-    back : AreReadable sets limit (map files names) → (taken : Taken) × (seen_from sets 1 (nothing limit) names files ≡ Ok taken)
+    back : AreReadable wanted limit (map files names) → (taken : Taken) × (seen_from wanted 1 (nothing limit) names files ≡ Ok taken)
     back readable =
-        let all = (fitting sets [] (routes_in_files readable.octets) (nothing limit) first (none_fit limit)).1 readable.fit in
-        are_seen sets 1 names readable.octets files (nothing limit) all.0 readable.there readable.whole all.1
+        let all = (fitting wanted.sets [] (routes_in_files wanted readable.octets) (nothing limit) first (none_fit limit)).1 readable.fit in
+        are_seen wanted 1 names readable.octets files (nothing limit) all.0 readable.there readable.whole all.1
 
 pub readable : ReadableLaw
 readable settings files = by (sample_of settings.job)
   where
     by : (o : Option ℕ) → ((taken : Taken) × (seen_beside o settings (dumps_in settings) files ≡ Ok taken))
-        ↔ AreReadable settings.sets settings.max_paths (dumps_beside o (dumps_in settings) files)
-    by None = dumps_readable settings.sets settings.max_paths (dumps_in settings) files
+        ↔ AreReadable (all_wanted settings.sets) settings.max_paths (dumps_beside o (dumps_in settings) files)
+    by None = dumps_readable (all_wanted settings.sets) settings.max_paths (dumps_in settings) files
     by (Some seed) =
-        subst (λ (given : Result Taken DumpsEnd). ((taken : Taken) × (given ≡ Ok taken)) ↔ AreReadable settings.sets settings.max_paths (Some (sample seed) ∷ []))
-        (as_dump settings seed) (dumps_readable settings.sets settings.max_paths ([] ∷ []) (sample_file seed))
+        subst (λ (given : Result Taken DumpsEnd). ((taken : Taken) × (given ≡ Ok taken)) ↔ AreReadable (all_wanted settings.sets) settings.max_paths (Some (sample seed) ∷ []))
+        (as_dump settings seed) (dumps_readable (all_wanted settings.sets) settings.max_paths ([] ∷ []) (sample_file seed))

@@ -63,6 +63,8 @@ use Rattle.path_order.specs.Orders.{ordered_behind}
 use Rattle.tor_output.proofs.SomeOrders.{of_both}
 use Rattle.tor_output.proofs.Orderings.{begin_too}
 use Rattle.tor_output.proofs.Sampled.{by_sample}
+use Rattle.dump_read.specs.declared.wanted.Wanted.{Wanted}
+use Rattle.dump_read.specs.Wanted.{all_wanted, file_routes}
 
 -- ---- the first rows stay those that were there
 
@@ -100,41 +102,41 @@ module _ (first : List (List ℕ)) where
       by (Ok further) is e rest = rest further e (cleaned_begins old further (clean_of sets route.width route.attrs) is so_far)
       by (Err kind) is e rest = absurd cc
 
-  pub octets_begin : (sets : Sets) (dump : ℕ) (old new : Taken) (octets : List ℕ) → of_octets sets dump old octets ≡ Ok new → Begins first old.table.rows → Begins first new.table.rows
-  octets_begin sets dump old new octets e so_far = by (take_routes sets old (file_reading octets).routes) refl (file_reading octets).end e
+  pub octets_begin : (wanted : Wanted) (dump : ℕ) (old new : Taken) (octets : List ℕ) → of_octets wanted dump old octets ≡ Ok new → Begins first old.table.rows → Begins first new.table.rows
+  octets_begin wanted dump old new octets e so_far = by (take_routes wanted.sets old (file_routes wanted octets)) refl (file_reading octets).end e
     where
       same_end : (x y : Taken) → ◌≡◌ {A = Result Taken DumpsEnd} (Ok x) (Ok y) → x ≡ y
       same_end x y e = cc
 
-      by : (took : Result Taken LimitKind) → take_routes sets old (file_reading octets).routes ≡ took → (end : FileEnd)
-          → (of_taking dump took >>= λ all. of_end dump end (with_file octets all)) ≡ Ok new → Begins first new.table.rows
+      by : (took : Result Taken LimitKind) → take_routes wanted.sets old (file_routes wanted octets) ≡ took → (end : FileEnd)
+          → (of_taking dump took >>= λ all. of_end dump end (with_file wanted octets all)) ≡ Ok new → Begins first new.table.rows
       by (Err kind) is end e = absurd cc
       by (Ok all) is (Broken at fault) e = absurd cc
       by (Ok all) is TooLong e = absurd cc
       by (Ok all) is Whole e =
-          subst (λ (t : Taken). Begins first t.table.rows) (same_end (with_file octets all) new e) (routes_begin sets (file_reading octets).routes old all is so_far)
+          subst (λ (t : Taken). Begins first t.table.rows) (same_end (with_file wanted octets all) new e) (routes_begin wanted.sets (file_routes wanted octets) old all is so_far)
 
-  dumps_begin : (sets : Sets) (dump : ℕ) (old new : Taken) (dumps : List (List ℕ)) → seen_of sets dump old dumps ≡ Ok new → Begins first old.table.rows → Begins first new.table.rows
-  dumps_begin sets dump old new [] e so_far = subst (λ (t : Taken). Begins first t.table.rows) (values.ok_is (seen_of sets dump old []) old new refl e) so_far
-  dumps_begin sets dump old new (octets ∷ rest) e so_far =
-      by (of_octets sets dump old octets) refl e (λ further. dumps_begin sets (dump + 1) further new rest)
+  dumps_begin : (wanted : Wanted) (dump : ℕ) (old new : Taken) (dumps : List (List ℕ)) → seen_of wanted dump old dumps ≡ Ok new → Begins first old.table.rows → Begins first new.table.rows
+  dumps_begin wanted dump old new [] e so_far = subst (λ (t : Taken). Begins first t.table.rows) (values.ok_is (seen_of wanted dump old []) old new refl e) so_far
+  dumps_begin wanted dump old new (octets ∷ rest) e so_far =
+      by (of_octets wanted dump old octets) refl e (λ further. dumps_begin wanted (dump + 1) further new rest)
     where
-      by : (one : Result Taken DumpsEnd) → of_octets sets dump old octets ≡ one → (one >>= λ further. seen_of sets (dump + 1) further rest) ≡ Ok new
-          → ((further : Taken) → seen_of sets (dump + 1) further rest ≡ Ok new → Begins first further.table.rows → Begins first new.table.rows) → Begins first new.table.rows
+      by : (one : Result Taken DumpsEnd) → of_octets wanted dump old octets ≡ one → (one >>= λ further. seen_of wanted (dump + 1) further rest) ≡ Ok new
+          → ((further : Taken) → seen_of wanted (dump + 1) further rest ≡ Ok new → Begins first further.table.rows → Begins first new.table.rows) → Begins first new.table.rows
       by (Err end) is e more = absurd cc
-      by (Ok further) is e more = more further e (octets_begin sets dump old further octets is so_far)
+      by (Ok further) is e more = more further e (octets_begin wanted dump old further octets is so_far)
 
 paths_of_rows : (lines : List PathLine) → row_paths (map row_of lines) ≡ map (λ line. line.path) lines
 paths_of_rows [] = refl
 paths_of_rows (line ∷ lines) = ap (λ (t : List (List ℕ)). line.path ∷ t) (paths_of_rows lines)
 
 -- what dumps give on top of a result begins with its paths
-pub rows_begin : (earlier : ResultFile) (limit : ℕ) (sets : Sets) (many : ℕ) (old new : Taken) → old ≡ taken_up earlier limit → IsOfSomeDumps sets many old new
+pub rows_begin : (earlier : ResultFile) (limit : ℕ) (wanted : Wanted) (many : ℕ) (old new : Taken) → old ≡ taken_up earlier limit → IsOfSomeDumps wanted many old new
     → BeginsWithPathsOf (row_paths new.table.rows) earlier
-rows_begin earlier limit sets many old new same some =
+rows_begin earlier limit wanted many old new same some =
     let start : Begins (its_paths earlier) old.table.rows =
     subst (λ (t : Taken). Begins (its_paths earlier) t.table.rows) (sym same) ([], paths_of_rows earlier.paths ∙ sym (append-nil (its_paths earlier))) in
-    let all = dumps_begin (its_paths earlier) sets 1 old new some.0 some.2 start in
+    let all = dumps_begin (its_paths earlier) wanted 1 old new some.0 some.2 start in
     let many_paths : length (its_paths earlier) ≡ length earlier.paths = length-map earlier.paths (λ line. line.path) in
     ap (take (length earlier.paths)) all.1
     ∙ take-append-le (length earlier.paths) (its_paths earlier) all.0 (omega (arith, many_paths))
@@ -206,18 +208,18 @@ few_where_ok {X = X} {E = E} x e n m h = elim (cases_order n m) [
 
 -- where it has no more paths than may be the dumps are read, and else that limit is met
 joined_few : (earlier : ResultFile) (limit : ℕ) (dumps : List (List ℕ)) (files : Files) → length earlier.paths ≤ limit
-    → joined earlier limit dumps files ≡ seen_from earlier.sets 1 (taken_up earlier limit) dumps files
+    → joined earlier limit dumps files ≡ seen_from (all_wanted earlier.sets) 1 (taken_up earlier limit) dumps files
 joined_few earlier limit dumps files few = rw (le-ltb limit (length earlier.paths) few) refl
 
 joined_many : (earlier : ResultFile) (limit : ℕ) (dumps : List (List ℕ)) (files : Files) → limit < length earlier.paths → joined earlier limit dumps files ≡ Err (Limit Paths 0)
 joined_many earlier limit dumps files many = rw (lt-ltb limit (length earlier.paths) many) refl
 
 -- what is taken up gives under these dumps what is joined
-on_top : (earlier : ResultFile) (sets : Sets) (limit : ℕ) (old : Taken) (read dumps : List (List ℕ)) (files : Files) (to : Result Taken DumpsEnd) → sets ≡ earlier.sets
-    → length earlier.paths ≤ limit → old ≡ taken_up earlier limit → read ≡ dumps → seen_from sets 1 old read files ≡ to → joined earlier limit dumps files ≡ to
-on_top earlier sets limit old read dumps files to its few same names is =
-    joined_few earlier limit dumps files few ∙ ap (λ (t : Taken). seen_from earlier.sets 1 t dumps files) (sym same)
-    ∙ ap (λ (ds : List (List ℕ)). seen_from earlier.sets 1 old ds files) (sym names) ∙ ap (λ (x : Sets). seen_from x 1 old read files) (sym its) ∙ is
+on_top : (earlier : ResultFile) (wanted : Wanted) (limit : ℕ) (old : Taken) (read dumps : List (List ℕ)) (files : Files) (to : Result Taken DumpsEnd) → wanted ≡ all_wanted earlier.sets
+    → length earlier.paths ≤ limit → old ≡ taken_up earlier limit → read ≡ dumps → seen_from wanted 1 old read files ≡ to → joined earlier limit dumps files ≡ to
+on_top earlier wanted limit old read dumps files to its few same names is =
+    joined_few earlier limit dumps files few ∙ ap (λ (t : Taken). seen_from (all_wanted earlier.sets) 1 t dumps files) (sym same)
+    ∙ ap (λ (ds : List (List ℕ)). seen_from (all_wanted earlier.sets) 1 old ds files) (sym names) ∙ ap (λ (x : Wanted). seen_from x 1 old read files) (sym its) ∙ is
 
 -- ---- what is written
 
@@ -236,46 +238,46 @@ module _ (settings : Settings) (earlier : ResultFile) (rest : Rest) (old : Taken
   abbrev same : old ≡ taken_up earlier settings.max_paths
   same = begun.begun
 
-  pub joined_made : (known : Option Files) (new : Taken) (output : Written) → IfSome known (λ files. seen_from rest.sets 1 old read files ≡ Ok new) → IsOutputOn settings earlier new output
+  pub joined_made : (known : Option Files) (new : Taken) (output : Written) → IfSome known (λ files. seen_from (all_wanted rest.sets) 1 old read files ≡ Ok new) → IsOutputOn settings earlier new output
       → IfSome known (λ files. IsOutputOnEarlier settings earlier files output)
   joined_made None new output is m = tt
-  joined_made (Some files) new output is m = (new, on_top earlier rest.sets settings.max_paths old read (dumps_in settings) files (Ok new) begun.left.sets few same names is, m)
+  joined_made (Some files) new output is m = (new, on_top earlier (all_wanted rest.sets) settings.max_paths old read (dumps_in settings) files (Ok new) (ap all_wanted begun.left.sets) few same names is, m)
 
-  pub joined_some : (new : Taken) (output : Written) → IsOfSomeDumps rest.sets (length read) old new → AreTableRows new.table.rows → IsOutputOn settings earlier new output
+  pub joined_some : (new : Taken) (output : Written) → IsOfSomeDumps (all_wanted rest.sets) (length read) old new → AreTableRows new.table.rows → IsOutputOn settings earlier new output
       → IsOutputOnSome settings earlier output
   joined_some new output some rows m = (
     new,
     few,
-    subst (λ (t : Taken). IsOfSomeDumps earlier.sets (length (dumps_in settings)) t new) same
-        (subst (λ (ds : List (List ℕ)). IsOfSomeDumps earlier.sets (length ds) old new) names
-        (subst (λ (x : Sets). IsOfSomeDumps x (length read) old new) begun.left.sets some)),
+    subst (λ (t : Taken). IsOfSomeDumps (all_wanted earlier.sets) (length (dumps_in settings)) t new) same
+        (subst (λ (ds : List (List ℕ)). IsOfSomeDumps (all_wanted earlier.sets) (length ds) old new) names
+        (subst (λ (x : Sets). IsOfSomeDumps (all_wanted x) (length read) old new) begun.left.sets some)),
     rows,
     m,
   )
 
   -- ---- why there is nothing
 
-  on_end : (known : Option Files) (end : DumpsEnd) → IfSome known (λ files. seen_from rest.sets 1 old read files ≡ Err end)
+  on_end : (known : Option Files) (end : DumpsEnd) → IfSome known (λ files. seen_from (all_wanted rest.sets) 1 old read files ≡ Err end)
       → IfSome known (λ files. joined earlier settings.max_paths (dumps_in settings) files ≡ Err end)
   on_end None end is = tt
-  on_end (Some files) end is = on_top earlier rest.sets settings.max_paths old read (dumps_in settings) files (Err end) begun.left.sets few same names is
+  on_end (Some files) end is = on_top earlier (all_wanted rest.sets) settings.max_paths old read (dumps_in settings) files (Err end) (ap all_wanted begun.left.sets) few same names is
 
-  before_end : (known : Option Files) (d : ℕ) → IfSome known (λ files. IsOk (seen_from rest.sets 1 old (take (d - 1) read) files))
+  before_end : (known : Option Files) (d : ℕ) → IfSome known (λ files. IsOk (seen_from (all_wanted rest.sets) 1 old (take (d - 1) read) files))
       → IfSome known (λ files. IsOk (joined earlier settings.max_paths (take (d - 1) (dumps_in settings)) files))
   before_end None d is = tt
   before_end (Some files) d is =
       subst (λ (r : Result Taken DumpsEnd). IsOk r)
-      (sym (on_top earlier rest.sets settings.max_paths old (take (d - 1) read) (take (d - 1) (dumps_in settings)) files (seen_from rest.sets 1 old (take (d - 1) read) files) begun.left.sets few same
+      (sym (on_top earlier (all_wanted rest.sets) settings.max_paths old (take (d - 1) read) (take (d - 1) (dumps_in settings)) files (seen_from (all_wanted rest.sets) 1 old (take (d - 1) read) files) (ap all_wanted begun.left.sets) few same
       (ap (take (d - 1)) names) refl)) is
 
   pub joined_refused : (known : Option Files) (steady : Type 0) (stopped : Stopped)
-      → IfSome (end_named stopped.dump stopped.error) (λ end. IfSome known (λ files. seen_from rest.sets 1 old read files ≡ Err end))
-      → (1 ≤ stopped.dump) × (stopped.dump ≤ length read) → IfSome known (λ files. IsOk (seen_from rest.sets 1 old (take (stopped.dump - 1) read) files))
-      → (steady → stopped.error ≡ error.ReadFault → IfSome known (λ files. seen_from rest.sets 1 old read files ≡ Err (Absent stopped.dump)))
+      → IfSome (end_named stopped.dump stopped.error) (λ end. IfSome known (λ files. seen_from (all_wanted rest.sets) 1 old read files ≡ Err end))
+      → (1 ≤ stopped.dump) × (stopped.dump ≤ length read) → IfSome known (λ files. IsOk (seen_from (all_wanted rest.sets) 1 old (take (stopped.dump - 1) read) files))
+      → (steady → stopped.error ≡ error.ReadFault → IfSome known (λ files. seen_from (all_wanted rest.sets) 1 old read files ≡ Err (Absent stopped.dump)))
       → IsStopAt (joined earlier settings.max_paths) (dumps_in settings) known steady (refusal.Dumps stopped)
   joined_refused known steady stopped ends named before absent = by stopped.error refl ends
     where
-      by : (e : DumpError) → stopped.error ≡ e → IfSome (end_named stopped.dump e) (λ end. IfSome known (λ files. seen_from rest.sets 1 old read files ≡ Err end))
+      by : (e : DumpError) → stopped.error ≡ e → IfSome (end_named stopped.dump e) (λ end. IfSome known (λ files. seen_from (all_wanted rest.sets) 1 old read files ≡ Err end))
           → StopsAt (joined earlier settings.max_paths) (dumps_in settings) known steady stopped.dump e
       by (error.Malformed place fault) is h = on_end known (Malformed place fault) h
       by (error.Limit kind) is h = on_end known (Limit kind stopped.dump) h

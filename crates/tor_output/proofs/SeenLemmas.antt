@@ -33,6 +33,8 @@ use Rattle.tor_output.specs.Output.{made_by}
 use Rattle.tor_output.specs.Sampling.{sample_of}
 use Rattle.tor_output.specs.Seen.{seen_beside, seen_in_sample, seen_of_dumps}
 use Rattle.tor_output.specs.SeenLaw.{IsWhole, IsSeenOf, DumpsLaw, SeenLaw, dumps_beside}
+use Rattle.dump_read.specs.declared.wanted.Wanted.{Wanted}
+use Rattle.dump_read.specs.Wanted.{all_wanted, file_routes}
 
 pub same : (x y : Taken) → ◌≡◌ {A = Result Taken DumpsEnd} (Ok x) (Ok y) → x ≡ y
 same x y e = cc
@@ -56,100 +58,100 @@ files_kept sets (route ∷ routes) old new e = by (take_route sets old route) re
 -- ---- one dump
 
 -- a dump was read to its end, and what it holds is counted behind the others
-pub record Adds (octets : List ℕ) (old new : Taken) : Type 0 where
+pub record Adds (wanted : Wanted) (octets : List ℕ) (old new : Taken) : Type 0 where
   pub whole : IsWhole octets
-  pub files : new.files ≡ old.files ++ file_counts octets ∷ []
+  pub files : new.files ≡ old.files ++ file_counts wanted octets ∷ []
 
-pub adds : (sets : Sets) (dump : ℕ) (octets : List ℕ) (old new : Taken) → of_file sets dump old (Some octets) ≡ Ok new → Adds octets old new
-adds sets dump octets old new e = by (take_routes sets old (file_reading octets).routes) refl (file_reading octets).end refl e
+pub adds : (wanted : Wanted) (dump : ℕ) (octets : List ℕ) (old new : Taken) → of_file wanted dump old (Some octets) ≡ Ok new → Adds wanted octets old new
+adds wanted dump octets old new e = by (take_routes wanted.sets old (file_routes wanted octets)) refl (file_reading octets).end refl e
   where
-    by : (taking : Result Taken LimitKind) → take_routes sets old (file_reading octets).routes ≡ taking → (end : FileEnd) → (file_reading octets).end ≡ end
-        → (of_taking dump taking >>= λ all. of_end dump end (with_file octets all)) ≡ Ok new → Adds octets old new
+    by : (taking : Result Taken LimitKind) → take_routes wanted.sets old (file_routes wanted octets) ≡ taking → (end : FileEnd) → (file_reading octets).end ≡ end
+        → (of_taking dump taking >>= λ all. of_end dump end (with_file wanted octets all)) ≡ Ok new → Adds wanted octets old new
     by (Err kind) takes end is e = absurd cc
     by (Ok all) takes (Broken at fault) is e = absurd cc
     by (Ok all) takes TooLong is e = absurd cc
     by (Ok all) takes Whole is e = record {
       whole = is;
-      files = ap (λ (t : Taken). t.files) (sym (same (with_file octets all) new e))
-          ∙ ap (λ (t : List FileCounts). t ++ file_counts octets ∷ []) (files_kept sets (file_reading octets).routes old all takes);
+      files = ap (λ (t : Taken). t.files) (sym (same (with_file wanted octets all) new e))
+          ∙ ap (λ (t : List FileCounts). t ++ file_counts wanted octets ∷ []) (files_kept wanted.sets (file_routes wanted octets) old all takes);
     }
 
 -- ---- all dumps
 
 -- what was seen of the dumps of these octets
-record SoFar (sets : Sets) (octets : List (List ℕ)) (taken : Taken) : Type 0 where
-  routes : IsTakenOf sets (routes_in_files octets) taken
-  files : taken.files ≡ map file_counts octets
+record SoFar (wanted : Wanted) (octets : List (List ℕ)) (taken : Taken) : Type 0 where
+  routes : IsTakenOf wanted.sets (routes_in_files wanted octets) taken
+  files : taken.files ≡ map (file_counts wanted) octets
 
 -- the others are there and whole, and what was seen is of them too
-record Further (sets : Sets) (before : List (List ℕ)) (given : List (Option (List ℕ))) (new : Taken) : Type 0 where
+record Further (wanted : Wanted) (before : List (List ℕ)) (given : List (Option (List ℕ))) (new : Taken) : Type 0 where
   octets : List (List ℕ)
   there : given ≡ map Some octets
   whole : All IsWhole octets
-  so_far : SoFar sets (before ++ octets) new
+  so_far : SoFar wanted (before ++ octets) new
 
-one_more : (sets : Sets) (dump : ℕ) (before : List (List ℕ)) (octets : List ℕ) (old new : Taken) → SoFar sets before old → of_file sets dump old (Some octets) ≡ Ok new
-    → SoFar sets (before ++ octets ∷ []) new
-one_more sets dump before octets old new so_far e =
-    let more = dumps.further sets dump before (Some octets) old new so_far.routes e in
+one_more : (wanted : Wanted) (dump : ℕ) (before : List (List ℕ)) (octets : List ℕ) (old new : Taken) → SoFar wanted before old → of_file wanted dump old (Some octets) ≡ Ok new
+    → SoFar wanted (before ++ octets ∷ []) new
+one_more wanted dump before octets old new so_far e =
+    let more = dumps.further wanted dump before (Some octets) old new so_far.routes e in
     record {
-      routes = subst (λ (o : List ℕ). IsTakenOf sets (routes_in_files (before ++ o ∷ [])) new) (sym (one_octets octets more.octets more.there)) more.taken;
-      files = (adds sets dump octets old new e).files ∙ ap (λ (t : List FileCounts). t ++ file_counts octets ∷ []) so_far.files ∙ sym (map_push file_counts before octets);
+      routes = subst (λ (o : List ℕ). IsTakenOf wanted.sets (routes_in_files wanted (before ++ o ∷ [])) new) (sym (one_octets octets more.octets more.there)) more.taken;
+      files = (adds wanted dump octets old new e).files ∙ ap (λ (t : List FileCounts). t ++ file_counts wanted octets ∷ []) so_far.files ∙ sym (map_push (file_counts wanted) before octets);
     }
   where
     one_octets : (x y : List ℕ) → ◌≡◌ {A = Option (List ℕ)} (Some x) (Some y) → x ≡ y
     one_octets x y e = cc
 
-rest : (sets : Sets) (dump : ℕ) (before names : List (List ℕ)) (files : Files) (old new : Taken) → SoFar sets before old → seen_from sets dump old names files ≡ Ok new
-    → Further sets before (map files names) new
-rest sets dump before [] files old new so_far e = record {
+rest : (wanted : Wanted) (dump : ℕ) (before names : List (List ℕ)) (files : Files) (old new : Taken) → SoFar wanted before old → seen_from wanted dump old names files ≡ Ok new
+    → Further wanted before (map files names) new
+rest wanted dump before [] files old new so_far e = record {
   octets = [];
   there = refl;
   whole = All-nil IsWhole;
-  so_far = subst (SoFar sets (before ++ [])) (same old new e) (subst (λ (t : List (List ℕ)). SoFar sets t old) (sym (append-nil before)) so_far);
+  so_far = subst (SoFar wanted (before ++ [])) (same old new e) (subst (λ (t : List (List ℕ)). SoFar wanted t old) (sym (append-nil before)) so_far);
 }
-rest sets dump before (name ∷ names) files old new so_far e =
-    by (files name) (of_file sets dump old (files name)) refl e (λ octets further. rest sets (dump + 1) (before ++ octets ∷ []) names files further new)
+rest wanted dump before (name ∷ names) files old new so_far e =
+    by (files name) (of_file wanted dump old (files name)) refl e (λ octets further. rest wanted (dump + 1) (before ++ octets ∷ []) names files further new)
   where
-    by : (file : Option (List ℕ)) (one : Result Taken DumpsEnd) → of_file sets dump old file ≡ one → (one >>= λ further. seen_from sets (dump + 1) further names files) ≡ Ok new
-        → ((octets : List ℕ) (further : Taken) → SoFar sets (before ++ octets ∷ []) further → seen_from sets (dump + 1) further names files ≡ Ok new
-        → Further sets (before ++ octets ∷ []) (map files names) new)
-        → Further sets before (file ∷ map files names) new
+    by : (file : Option (List ℕ)) (one : Result Taken DumpsEnd) → of_file wanted dump old file ≡ one → (one >>= λ further. seen_from wanted (dump + 1) further names files) ≡ Ok new
+        → ((octets : List ℕ) (further : Taken) → SoFar wanted (before ++ octets ∷ []) further → seen_from wanted (dump + 1) further names files ≡ Ok new
+        → Further wanted (before ++ octets ∷ []) (map files names) new)
+        → Further wanted before (file ∷ map files names) new
     by file (Err end) is e ih = absurd cc
     by None (Ok further) is e ih = absurd cc
     by (Some octets) (Ok further) is e ih =
-        let more = ih octets further (one_more sets dump before octets old further so_far is) e in
+        let more = ih octets further (one_more wanted dump before octets old further so_far is) e in
         record {
           octets = octets ∷ more.octets;
           there = ap (λ (t : List (Option (List ℕ))). Some octets ∷ t) more.there;
-          whole = All-cons IsWhole octets more.octets (adds sets dump octets old further is).whole more.whole;
-          so_far = subst (λ (t : List (List ℕ)). SoFar sets t new) (append_assoc before (octets ∷ []) more.octets) more.so_far;
+          whole = All-cons IsWhole octets more.octets (adds wanted dump octets old further is).whole more.whole;
+          so_far = subst (λ (t : List (List ℕ)). SoFar wanted t new) (append_assoc before (octets ∷ []) more.octets) more.so_far;
         }
 
 -- ---- a run
 
-at_first : (sets : Sets) (limit : ℕ) → SoFar sets [] (nothing limit)
-at_first sets limit = record { routes = dumps.first sets (nothing limit) (record { rows = refl; counts = refl }); files = refl }
+at_first : (wanted : Wanted) (limit : ℕ) → SoFar wanted [] (nothing limit)
+at_first wanted limit = record { routes = dumps.first wanted (nothing limit) (record { rows = refl; counts = refl }); files = refl }
 
-all_seen : (sets : Sets) (given : List (Option (List ℕ))) (taken : Taken) → Further sets [] given taken → IsSeenOf sets given taken
-all_seen sets given taken all = record {
+all_seen : (wanted : Wanted) (given : List (Option (List ℕ))) (taken : Taken) → Further wanted [] given taken → IsSeenOf wanted given taken
+all_seen wanted given taken all = record {
   octets = all.octets;
   there = all.there;
   whole = all.whole;
   routes = all.so_far.routes;
   files = all.so_far.files;
-  held = subst (λ (t : List FileCounts). HoldTogether all.octets (together t)) (sym all.so_far.files) (together_law all.octets);
+  held = subst (λ (t : List FileCounts). HoldTogether wanted all.octets (together t)) (sym all.so_far.files) (together_law wanted all.octets);
 }
 
 pub dumps_law : DumpsLaw
-dumps_law sets limit names files taken e = all_seen sets (map files names) taken (rest sets 1 [] names files (nothing limit) taken (at_first sets limit) e)
+dumps_law wanted limit names files taken e = all_seen wanted (map files names) taken (rest wanted 1 [] names files (nothing limit) taken (at_first wanted limit) e)
 
 -- a sample is read as one dump that is there
 
 abbrev pub sample_file : ℕ → Files
 sample_file seed name = Some (sample seed)
 
-pub as_dump : (settings : Settings) (seed : ℕ) → seen_from settings.sets 1 (nothing settings.max_paths) ([] ∷ []) (sample_file seed) ≡ seen_in_sample settings seed
+pub as_dump : (settings : Settings) (seed : ℕ) → seen_from (all_wanted settings.sets) 1 (nothing settings.max_paths) ([] ∷ []) (sample_file seed) ≡ seen_in_sample settings seed
 as_dump settings seed = by (seen_in_sample settings seed)
   where
     by : (one : Result Taken DumpsEnd) → (one >>= λ further. Ok further) ≡ one
@@ -159,9 +161,9 @@ as_dump settings seed = by (seen_in_sample settings seed)
 pub seen_law : SeenLaw
 seen_law settings files taken e = by (sample_of settings.job) e
   where
-    by : (o : Option ℕ) → seen_beside o settings (dumps_in settings) files ≡ Ok taken → IsSeenOf settings.sets (dumps_beside o (dumps_in settings) files) taken
-    by None is = dumps_law settings.sets settings.max_paths (dumps_in settings) files taken is
-    by (Some seed) is = dumps_law settings.sets settings.max_paths ([] ∷ []) (sample_file seed) taken (as_dump settings seed ∙ is)
+    by : (o : Option ℕ) → seen_beside o settings (dumps_in settings) files ≡ Ok taken → IsSeenOf (all_wanted settings.sets) (dumps_beside o (dumps_in settings) files) taken
+    by None is = dumps_law (all_wanted settings.sets) settings.max_paths (dumps_in settings) files taken is
+    by (Some seed) is = dumps_law (all_wanted settings.sets) settings.max_paths ([] ∷ []) (sample_file seed) taken (as_dump settings seed ∙ is)
 
 -- what is made of dumps alone is made of files
 pub made_of_files : (job : Job) (made : Made) (settings : Settings) (files : Files) (taken : Taken) → made_by job ≡ Some made

@@ -23,6 +23,8 @@ use Rattle.dump_read.specs.Files.{with_file}
 use Rattle.dump_read.specs.Seen.{DumpsEnd, of_end, of_taking, of_octets, of_file}
 use Rattle.dump_read.specs.Taking.{with_one, has_too_many_numbers, take_path, take_cleaned, take_route, take_routes}
 use Rattle.run_base.specs.Reading.{seen_from}
+use Rattle.dump_read.specs.declared.wanted.Wanted.{Wanted}
+use Rattle.dump_read.specs.Wanted.{file_routes}
 
 -- the same with another limit
 abbrev pub widened : ℕ → Taken → Taken
@@ -168,38 +170,38 @@ module _ (limit most : ℕ) where
           let more = rest further step.1 e in
           (rw step.0 more.0, more.1)
 
-  one_file : (sets : Sets) (dump : ℕ) (taken new : Taken) (file : Option (List ℕ)) → IsWithin limit most taken → of_file sets dump taken file ≡ Ok new →
-      (of_file sets dump (widened most taken) file ≡ Ok (widened most new)) × IsWithin limit most new
-  one_file sets dump taken new None within e = absurd cc
-  one_file sets dump taken new (Some octets) within e =
-      by (take_routes sets taken (file_reading octets).routes) refl (file_reading octets).end refl e
+  one_file : (wanted : Wanted) (dump : ℕ) (taken new : Taken) (file : Option (List ℕ)) → IsWithin limit most taken → of_file wanted dump taken file ≡ Ok new →
+      (of_file wanted dump (widened most taken) file ≡ Ok (widened most new)) × IsWithin limit most new
+  one_file wanted dump taken new None within e = absurd cc
+  one_file wanted dump taken new (Some octets) within e =
+      by (take_routes wanted.sets taken (file_routes wanted octets)) refl (file_reading octets).end refl e
     where
-      by : (took : Result Taken LimitKind) → take_routes sets taken (file_reading octets).routes ≡ took → (end : FileEnd) → (file_reading octets).end ≡ end →
-          (of_taking dump took >>= λ all. of_end dump end (with_file octets all)) ≡ Ok new →
-          (of_octets sets dump (widened most taken) octets ≡ Ok (widened most new)) × IsWithin limit most new
+      by : (took : Result Taken LimitKind) → take_routes wanted.sets taken (file_routes wanted octets) ≡ took → (end : FileEnd) → (file_reading octets).end ≡ end →
+          (of_taking dump took >>= λ all. of_end dump end (with_file wanted octets all)) ≡ Ok new →
+          (of_octets wanted dump (widened most taken) octets ≡ Ok (widened most new)) × IsWithin limit most new
       by (Err kind) is end ends e = absurd cc
       by (Ok all) is (Broken at fault) ends e = absurd cc
       by (Ok all) is TooLong ends e = absurd cc
       by (Ok all) is Whole ends e =
-          let routes = all_routes sets taken all (file_reading octets).routes within is in
-          let same : with_file octets all ≡ new = same_end (with_file octets all) new e in
-          let within_too : IsWithin limit most (with_file octets all) = record { same = routes.1.same; few = routes.1.few; less = routes.1.less } in
+          let routes = all_routes wanted.sets taken all (file_routes wanted octets) within is in
+          let same : with_file wanted octets all ≡ new = same_end (with_file wanted octets all) new e in
+          let within_too : IsWithin limit most (with_file wanted octets all) = record { same = routes.1.same; few = routes.1.few; less = routes.1.less } in
           (rw (routes.0, ends) (ap (λ (t : Taken). Ok (widened most t)) same), subst (IsWithin limit most) same within_too)
 
-  pub all_files : (sets : Sets) (dump : ℕ) (taken new : Taken) (names : List (List ℕ)) (files : Files) → IsWithin limit most taken →
-      seen_from sets dump taken names files ≡ Ok new → seen_from sets dump (widened most taken) names files ≡ Ok (widened most new)
-  all_files sets dump taken new [] files within e = ap (λ (r : Result Taken DumpsEnd). widened_in r) e
+  pub all_files : (wanted : Wanted) (dump : ℕ) (taken new : Taken) (names : List (List ℕ)) (files : Files) → IsWithin limit most taken →
+      seen_from wanted dump taken names files ≡ Ok new → seen_from wanted dump (widened most taken) names files ≡ Ok (widened most new)
+  all_files wanted dump taken new [] files within e = ap (λ (r : Result Taken DumpsEnd). widened_in r) e
     where
       widened_in : Result Taken DumpsEnd → Result Taken DumpsEnd
       widened_in (Ok t) = Ok (widened most t)
       widened_in (Err end) = Err end
-  all_files sets dump taken new (name ∷ names) files within e = by (of_file sets dump taken (files name)) refl e (λ further. all_files sets (dump + 1) further new names files)
+  all_files wanted dump taken new (name ∷ names) files within e = by (of_file wanted dump taken (files name)) refl e (λ further. all_files wanted (dump + 1) further new names files)
     where
-      by : (one : Result Taken DumpsEnd) → of_file sets dump taken (files name) ≡ one → (one >>= λ further. seen_from sets (dump + 1) further names files) ≡ Ok new →
-          ((further : Taken) → IsWithin limit most further → seen_from sets (dump + 1) further names files ≡ Ok new →
-          seen_from sets (dump + 1) (widened most further) names files ≡ Ok (widened most new)) →
-          (of_file sets dump (widened most taken) (files name) >>= λ further. seen_from sets (dump + 1) further names files) ≡ Ok (widened most new)
+      by : (one : Result Taken DumpsEnd) → of_file wanted dump taken (files name) ≡ one → (one >>= λ further. seen_from wanted (dump + 1) further names files) ≡ Ok new →
+          ((further : Taken) → IsWithin limit most further → seen_from wanted (dump + 1) further names files ≡ Ok new →
+          seen_from wanted (dump + 1) (widened most further) names files ≡ Ok (widened most new)) →
+          (of_file wanted dump (widened most taken) (files name) >>= λ further. seen_from wanted (dump + 1) further names files) ≡ Ok (widened most new)
       by (Err end) is e rest = absurd cc
       by (Ok further) is e rest =
-          let step = one_file sets dump taken further (files name) within is in
+          let step = one_file wanted dump taken further (files name) within is in
           rw step.0 (rest further step.1 e)

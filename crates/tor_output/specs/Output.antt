@@ -1,4 +1,5 @@
 -- What a run that is done has written, by its job.
+use Rattle.dump_read.specs.Wanted.{all_wanted}
 use Rattle.std.specs.Prelude.{◌≡◌, ◌≤◌, ◌++◌, ◌∷◌, [], ℕ, List, length, map, Ok, Option, None, Some, unwrap_or}
 use Rattle.std.specs.Io.KnownBytes.{append_known}
 use Rattle.tor_io.specs.Contents.{Files}
@@ -151,7 +152,7 @@ IsOutputOnEarlier settings earlier files output = (taken : Taken) ×
 -- dumps of some octets give that, a file for each name of a dump
 abbrev pub IsOutputOnSome : Settings → (earlier : ResultFile) → Written → Type 0
 IsOutputOnSome settings earlier output = (taken : Taken) × (length earlier.paths ≤ settings.max_paths) ×
-    IsOfSomeDumps earlier.sets (length (dumps_in settings)) (taken_up earlier settings.max_paths) taken × AreTableRows taken.table.rows ×
+    IsOfSomeDumps (all_wanted earlier.sets) (length (dumps_in settings)) (taken_up earlier settings.max_paths) taken × AreTableRows taken.table.rows ×
     IsOutputOn settings earlier taken output
 
 -- what is written of this outcome: of dumps by the job, of dumps on top of a result the result of both, and of a result its text of

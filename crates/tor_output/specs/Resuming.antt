@@ -1,5 +1,6 @@
 -- What is gained where a result is taken up: where the earlier result is of some dumps, the one that is written is of these and then of the
 -- new ones.
+use Rattle.dump_read.specs.Wanted.{all_wanted}
 use Rattle.std.specs.Prelude.{◌≡◌, ℕ, List, ◌++◌, map, Option, Some, Ok}
 use Rattle.std.specs.Io.KnownBytes.{append_known}
 use Rattle.std.specs.List.Sorted.{IsPermutation}
@@ -18,12 +19,12 @@ use Rattle.tor_output.specs.Output.{IsResumed}
 
 -- the paths of the result with their times, and its counts, are what dumps of these octets give, read with its sets
 abbrev pub IsOfDumps : ResultFile → List (List ℕ) → Type 0
-IsOfDumps file dumps = (taken : Taken) × (seen_of file.sets 1 (nothing max_paths) dumps ≡ Ok taken) ×
+IsOfDumps file dumps = (taken : Taken) × (seen_of (all_wanted file.sets) 1 (nothing max_paths) dumps ≡ Ok taken) ×
     (taken.table.rows ≡ its_rows file) × (taken.counts ≡ file.asides)
 
 -- the same but for the order of the paths
 abbrev pub IsOfDumpsInSomeOrder : ResultFile → List (List ℕ) → Type 0
-IsOfDumpsInSomeOrder file dumps = (taken : Taken) × (seen_of file.sets 1 (nothing max_paths) dumps ≡ Ok taken) ×
+IsOfDumpsInSomeOrder file dumps = (taken : Taken) × (seen_of (all_wanted file.sets) 1 (nothing max_paths) dumps ≡ Ok taken) ×
     IsPermutation taken.table.rows (its_rows file) × (taken.counts ≡ file.asides)
 
 -- the files of these names have these octets, in order

@@ -1,5 +1,6 @@
 -- What the words and the files give: what is known, and what the dumps give in their order, or the sample; or a result; or a result that is
 -- taken up, and what the dumps give on top of it.
+use Rattle.dump_read.specs.Wanted.{all_wanted}
 use Rattle.std.specs.Prelude.{◌≡◌, ◌≤◌, ◌⊎◌, ℕ, nat_lt, if◌then◌else◌, List, [], length, Option, None, Some, Result, Ok, Err}
 use Rattle.tor_io.specs.Contents.{Files}
 use Rattle.as_rel.specs.declared.givens.KnownLines.{KnownLines}
@@ -21,7 +22,7 @@ use Rattle.tor_output.specs.First.{EndsAtFirst, AreSomeGivens, AreSound, IsSomeR
 
 -- of dumps of these names, in their order
 abbrev pub seen_of_dumps : Settings → List (List ℕ) → Files → Result Taken DumpsEnd
-seen_of_dumps settings dumps files = seen_from settings.sets 1 (nothing settings.max_paths) dumps files
+seen_of_dumps settings dumps files = seen_from (all_wanted settings.sets) 1 (nothing settings.max_paths) dumps files
 
 -- of those that the settings name
 abbrev pub seen : Settings → Files → Result Taken DumpsEnd
@@ -29,7 +30,7 @@ seen settings files = seen_of_dumps settings (dumps_in settings) files
 
 -- the same of one dump that is the sample of this number, and no file
 abbrev pub seen_in_sample : Settings → ℕ → Result Taken DumpsEnd
-seen_in_sample settings seed = of_file settings.sets 1 (nothing settings.max_paths) (Some (sample seed))
+seen_in_sample settings seed = of_file (all_wanted settings.sets) 1 (nothing settings.max_paths) (Some (sample seed))
 
 -- of what is read: dumps of these names, or the sample in their place
 abbrev pub seen_beside : Option ℕ → Settings → List (List ℕ) → Files → Result Taken DumpsEnd
@@ -42,7 +43,7 @@ seen_in settings files = seen_beside (sample_of settings.job) settings (dumps_in
 -- this is what some octets give, a file for each name of a dump; or it is what the sample gives
 abbrev pub IsSeenBeside : Option ℕ → Settings → List (List ℕ) → Taken → Type 0
 IsSeenBeside (Some seed) settings dumps taken = seen_in_sample settings seed ≡ Ok taken
-IsSeenBeside None settings dumps taken = IsOfSomeDumps settings.sets (length dumps) (nothing settings.max_paths) taken
+IsSeenBeside None settings dumps taken = IsOfSomeDumps (all_wanted settings.sets) (length dumps) (nothing settings.max_paths) taken
 
 -- ---- what dumps give on top of a result
 
@@ -53,7 +54,7 @@ taken_up file limit = record { table = record { limit = limit; rows = its_rows f
 -- of these dumps, read with its sets. Where it has more paths than may be, that limit is met before the first of them
 abbrev pub joined : ResultFile → ℕ → List (List ℕ) → Files → Result Taken DumpsEnd
 joined file limit dumps files =
-    if nat_lt limit (length file.paths) then Err (Limit Paths 0) else seen_from file.sets 1 (taken_up file limit) dumps files
+    if nat_lt limit (length file.paths) then Err (Limit Paths 0) else seen_from (all_wanted file.sets) 1 (taken_up file limit) dumps files
 
 -- ---- what a run comes to
 
@@ -97,7 +98,7 @@ ComesOfSome settings (Reads known taken) =
     AreTableRows taken.table.rows × AreSound known
 ComesOfSome settings (Joins file taken) =
     TakesUpSome (first_in settings) file × (length file.paths ≤ settings.max_paths) ×
-    IsOfSomeDumps file.sets (length (dumps_in settings)) (taken_up file settings.max_paths) taken × AreTableRows taken.table.rows
+    IsOfSomeDumps (all_wanted file.sets) (length (dumps_in settings)) (taken_up file settings.max_paths) taken × AreTableRows taken.table.rows
 ComesOfSome settings (Holds file) = IsSomeResult (first_in settings) file
 ComesOfSome settings (Stops end) = ⊥
 ComesOfSome settings (Ends end) = ⊥

@@ -1,13 +1,14 @@
 -- What a run has seen of its dumps, and when it sees all of them: the laws of the whole run.
 use Rattle.std.specs.Prelude.{◌≡◌, ◌↔◌, ℕ, List, [], ◌∷◌, map, Option, None, Some, Ok}
 use Rattle.std.specs.List.{All}
-use Rattle.path_clean.specs.declared.cleaned.Sets.{Sets}
 use Rattle.tor_io.specs.Contents.{Files}
 use Rattle.dump_read.specs.declared.taking.Taken.{Taken}
 use Rattle.dump_read.specs.FileLaws.{HoldTogether}
 use Rattle.dump_read.specs.Files.{file_counts, together}
 use Rattle.dump_read.specs.Laws.{IsTakenOf, routes_in_files, cleaned_paths, Fit}
 use Rattle.dump_read.specs.Reading.{Whole, file_reading}
+use Rattle.dump_read.specs.declared.wanted.Wanted.{Wanted}
+use Rattle.dump_read.specs.Wanted.{all_wanted}
 use Rattle.tor_sample.specs.Records.{sample}
 use Rattle.tor_words.specs.declared.settings.Settings.{Settings}
 use Rattle.tor_words.specs.Given.{dumps_in}
@@ -28,47 +29,47 @@ abbrev pub IsWhole : List ℕ → Type 0
 IsWhole octets = (file_reading octets).end ≡ Whole
 
 -- what was taken in is of all these dumps, each of which is there and is read to its end
-pub record IsSeenOf (sets : Sets) (dumps : List (Option (List ℕ))) (taken : Taken) : Type 0 where
+pub record IsSeenOf (wanted : Wanted) (dumps : List (Option (List ℕ))) (taken : Taken) : Type 0 where
   pub octets : List (List ℕ)
   pub there : dumps ≡ map Some octets
   pub whole : All IsWhole octets
-  -- the distinct cleaned paths of all their routes, each with how often it came, and how many routes are set aside for each cause
-  pub routes : IsTakenOf sets (routes_in_files octets) taken
+  -- the distinct cleaned paths of all their routes that count, each with how often it came, and how many routes are set aside for each cause
+  pub routes : IsTakenOf wanted.sets (routes_in_files wanted octets) taken
   -- what each of them holds, in order, and so what all of them hold together
-  pub files : taken.files ≡ map file_counts octets
-  pub held : HoldTogether octets (together taken.files)
+  pub files : taken.files ≡ map (file_counts wanted) octets
+  pub held : HoldTogether wanted octets (together taken.files)
 
 -- what is taken in of dumps that are read one after the other, the first from nothing on, is of all of them
 abbrev pub DumpsLaw : Type 0
 DumpsLaw =
-    (sets : Sets) (limit : ℕ) (names : List (List ℕ)) (files : Files) (taken : Taken)
-    → seen_from sets 1 (nothing limit) names files ≡ Ok taken → IsSeenOf sets (map files names) taken
+    (wanted : Wanted) (limit : ℕ) (names : List (List ℕ)) (files : Files) (taken : Taken)
+    → seen_from wanted 1 (nothing limit) names files ≡ Ok taken → IsSeenOf wanted (map files names) taken
 
 -- what a run has seen is of all its dumps
 abbrev pub SeenLaw : Type 0
 SeenLaw =
     (settings : Settings) (files : Files) (taken : Taken)
-    → seen_in settings files ≡ Ok taken → IsSeenOf settings.sets (dumps_for settings files) taken
+    → seen_in settings files ≡ Ok taken → IsSeenOf (all_wanted settings.sets) (dumps_for settings files) taken
 
 -- ---- when all is read
 
--- each of these dumps is there and is read to its end, and the distinct cleaned paths of all of them are at most so many and have at
+-- each of these dumps is there and is read to its end, and the distinct cleaned paths of all their routes that count are at most so many and have at
 -- most `max_numbers` numbers in sum
-pub record AreReadable (sets : Sets) (limit : ℕ) (dumps : List (Option (List ℕ))) : Type 0 where
+pub record AreReadable (wanted : Wanted) (limit : ℕ) (dumps : List (Option (List ℕ))) : Type 0 where
   pub octets : List (List ℕ)
   pub there : dumps ≡ map Some octets
   pub whole : All IsWhole octets
-  pub fit : Fit limit (cleaned_paths sets (routes_in_files octets))
+  pub fit : Fit limit (cleaned_paths wanted.sets (routes_in_files wanted octets))
 
 -- dumps that are read one after the other are all taken in exactly where they are readable
 abbrev pub DumpsReadableLaw : Type 0
 DumpsReadableLaw =
-    (sets : Sets) (limit : ℕ) (names : List (List ℕ)) (files : Files)
-    → ((taken : Taken) × (seen_from sets 1 (nothing limit) names files ≡ Ok taken)) ↔ AreReadable sets limit (map files names)
+    (wanted : Wanted) (limit : ℕ) (names : List (List ℕ)) (files : Files)
+    → ((taken : Taken) × (seen_from wanted 1 (nothing limit) names files ≡ Ok taken)) ↔ AreReadable wanted limit (map files names)
 
 -- a run sees all its dumps exactly where they are readable
 abbrev pub ReadableLaw : Type 0
 ReadableLaw =
     (settings : Settings) (files : Files)
     → ((taken : Taken) × (seen_in settings files ≡ Ok taken)) ↔
-    AreReadable settings.sets settings.max_paths (dumps_for settings files)
+    AreReadable (all_wanted settings.sets) settings.max_paths (dumps_for settings files)

@@ -3,6 +3,7 @@ ghost use Rattle.std.specs.Prelude.{◌≡◌, ◌≤◌, ◌<◌, ◌++◌, Ok,
 ghost use Rattle.std.specs.Io.KnownBytes.{IsAtEnd};
 ghost use Rattle.tor_arena.specs.Limits.{max_paths};
 ghost use Rattle.rel_infer.specs.SelfAcceptance.{AreTableRows};
+ghost use Rattle.dump_read.specs.Wanted.{all_wanted};
 ghost use Rattle.run_base.specs.Answers.{IsReadFault};
 ghost use Rattle.run_base.specs.Frames.{ReadsShelf};
 ghost use Rattle.run_base.specs.Opening.{OpensDumps};
@@ -12,7 +13,7 @@ ghost use Rattle.tor_output.specs.Refusals.{IsStopAt};
 ghost use Rattle.tor_output.specs.Seen.{seen_of_dumps};
 
 use crate::output::has_table_rows;
-use dump_read::Taken;
+use dump_read::{Taken, Wanted};
 use run_base::{Refusal, nothing_taken, read_dumps};
 use std::alloc::Global;
 use tor_arena::{Keys, List};
@@ -32,7 +33,7 @@ pub(crate) fn dumps_taken<H: Shelf>(
     requires most { settings.now.max_paths ≤ max_paths }
     ensures seen { IfOk result (λ taken. IfSome (H.files shelf.old) (λ files.
         seen_of_dumps settings.now dumps.now files ≡ Ok taken)) }
-    ensures of_some { IfOk result (IsOfSomeDumps settings.now.sets (length dumps.now) (nothing settings.now.max_paths)) }
+    ensures of_some { IfOk result (IsOfSomeDumps (all_wanted settings.now.sets) (length dumps.now) (nothing settings.now.max_paths)) }
     ensures rows { IfOk result (λ taken. AreTableRows taken.table.rows) }
     ensures refused { IfErr result (IsStopAt (seen_of_dumps settings.now) dumps.now (H.files shelf.old) (H.steady shelf.old)) }
     ensures read_out { OnOk result (0 < length dumps.now → IsAtEnd (H.left shelf.new)) }
@@ -43,7 +44,8 @@ pub(crate) fn dumps_taken<H: Shelf>(
     ensures reads_shelf { ReadsShelf H.Shelf (IsErrAnd result IsReadFault) shelf.old shelf.new }
 {
     let mut taken = nothing_taken(alloc, keys, settings.max_paths);
-    match read_dumps(alloc, shelf, dumps.as_slice(), settings.sets, &mut taken) {
+    let wanted = Wanted::all(settings.sets);
+    match read_dumps(alloc, shelf, dumps.as_slice(), &wanted, &mut taken) {
         Ok(()) => {
             has_table_rows(&taken.table);
             Ok(taken)

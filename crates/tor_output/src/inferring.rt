@@ -14,6 +14,7 @@ ghost use Rattle.rel_infer.specs.SelfAcceptance.{AreTableRows};
 ghost use Rattle.tor_words.specs.declared.job.Job.TheVariants.{Infer};
 ghost use Rattle.run_base.specs.Answers.{IsReadFault};
 ghost use Rattle.run_base.specs.Reading.{IsOfSomeDumps, nothing};
+ghost use Rattle.dump_read.specs.Wanted.{all_wanted};
 ghost use Rattle.dump_read.specs.declared.taking.Taken.{Taken as TakenIn};
 ghost use Rattle.run_base.specs.Frames.{ReadsShelf};
 ghost use Rattle.run_base.specs.Opening.{AllRead, OpensDumps, OpensInOrder};
@@ -263,7 +264,7 @@ fn made_under<H: Shelf>(
     ensures output { IfOk result (λ output. IfSome (H.files shelf.old) (λ files. (taken : TakenIn) ×
         (seen_of_dumps settings.now dumps.now files ≡ Ok taken) × IsMade made settings.now said taken (written output))) }
     ensures of_some { IfOk result (λ output. (taken : TakenIn) ×
-        IsOfSomeDumps settings.now.sets (length dumps.now) (nothing settings.now.max_paths) taken ×
+        IsOfSomeDumps (all_wanted settings.now.sets) (length dumps.now) (nothing settings.now.max_paths) taken ×
         AreTableRows taken.table.rows × IsMade made settings.now said taken (written output)) }
     ensures refused { IfErr result (IsStopAt (seen_of_dumps settings.now) dumps.now (H.files shelf.old) (H.steady shelf.old)) }
     ensures read_out { OnOk result (0 < length dumps.now → IsAtEnd (H.left shelf.new)) }

@@ -26,7 +26,7 @@ use crate::first::earlier_in;
 use crate::ordering::paths_behind;
 use crate::output::{Output, has_table_rows, text_and_summary};
 use crate::unwritten::Unwritten;
-use dump_read::{DumpError, LimitKind, Taken};
+use dump_read::{DumpError, LimitKind, Taken, Wanted};
 use path_clean::{Asides, Cause};
 use path_order::DistinctPaths;
 use rel_infer::{Rest, TableRefused, result_resumed, take_up};
@@ -232,7 +232,8 @@ fn joined_output<H: Shelf>(
 
     ensures reads_shelf { ReadsShelf H.Shelf (IsErrAnd result IsReadFault) shelf.old shelf.new }
 {
-    match read_dumps(alloc, shelf, dumps.as_slice(), earlier.sets, &mut taken) {
+    let wanted = Wanted::all(earlier.sets);
+    match read_dumps(alloc, shelf, dumps.as_slice(), &wanted, &mut taken) {
         Ok(()) => {
             has_table_rows(&taken.table);
             match resumed_text(alloc, keys, settings, earlier, taken) {

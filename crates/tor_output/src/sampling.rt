@@ -13,10 +13,11 @@ ghost use Rattle.tor_output.specs.Written.{written};
 ghost use Rattle.tor_io.specs.FaultPlan.{IsSteady};
 ghost use Rattle.tor_io.specs.MemShelf.{files_in};
 ghost use Rattle.dump_read.specs.Seen.{end_named, of_file};
+ghost use Rattle.dump_read.specs.Wanted.{all_wanted};
 ghost use Rattle.tor_sample.specs.Records.{sample};
 
 use crate::output::{Output, faithful_result, has_table_rows, summary_line};
-use dump_read::{DumpError, Taken, read_dump};
+use dump_read::{DumpError, Taken, Wanted, read_dump};
 use path_clean::Sets;
 use result_text::ResultFile;
 use run_base::{Refusal, Stopped, nothing_taken};
@@ -46,9 +47,9 @@ fn shelf_of(alloc: Global, seed: u64) -> Result<MemShelf, NoMemory>
 
 // Takes in the routes of the sample of this number, which is dump 1. It touches no shelf, and no read fails.
 fn read_sample(alloc: Global, seed: u64, sets: Sets, taken: &mut Taken) -> Result<(), Stopped>
-    ensures read { OnOk result (of_file sets 1 taken.old (Some (sample seed)) ≡ Ok taken.new) }
+    ensures read { OnOk result (of_file (all_wanted sets) 1 taken.old (Some (sample seed)) ≡ Ok taken.new) }
     ensures stopped { IfErr result (λ e. IfSome (end_named 1 e.error) (λ end.
-        of_file sets 1 taken.old (Some (sample seed)) ≡ Err end)) }
+        of_file (all_wanted sets) 1 taken.old (Some (sample seed)) ≡ Err end)) }
     ensures first { IfErr result (λ e. e.dump ≡ 1) }
     ensures no_fault { IfErr result (λ e. e.error ≢ DumpError.ReadFault) }
 {
@@ -58,7 +59,8 @@ fn read_sample(alloc: Global, seed: u64, sets: Sets, taken: &mut Taken) -> Resul
             error: DumpError::NoMemory,
         });
     };
-    let read = read_dump(alloc, &mut shelf, "sample", 1, sets, taken);
+    let wanted = Wanted::all(sets);
+    let read = read_dump(alloc, &mut shelf, "sample", 1, &wanted, taken);
     drop(shelf);
     match read {
         Ok(()) => Ok(()),

@@ -1,4 +1,5 @@
 -- How a check ends, by its verdict.
+use Rattle.dump_read.specs.Wanted.{all_wanted}
 use Rattle.std.proofs.Common.{◌≡◌, ◌≢◌, ◌⊎◌, ◌∙◌, ◌<◌, inl, inr, ℕ, zero, suc, Bool, List, [], ◌∷◌, length, Option, Some, None, Result, Ok, Err, refl, sym, ap, subst, arith}
 use Rattle.std.specs.Prelude.{IfSome, IsOk}
 use Rattle.tor_arena.specs.Limits.{max_paths}
@@ -36,7 +37,7 @@ use Rattle.torcheck_run.proofs.Comings.{vouched}
 -- ---- the verdict
 
 pub some_dumps : (any : Bool) (known : Option Files) (file : ResultFile) (dumps : List (List ℕ)) (taken : Taken) (verdict : Verdict) → 0 < length dumps
-    → DumpsGive known file.sets dumps (nothing max_paths) taken → JudgesTaken any file taken verdict → JudgesDumps any known file dumps verdict
+    → DumpsGive known (all_wanted file.sets) dumps (nothing max_paths) taken → JudgesTaken any file taken verdict → JudgesDumps any known file dumps verdict
 some_dumps any known file [] taken verdict some seen judged = absurd (omega (arith, some))
 some_dumps any known file (dump ∷ dumps) taken verdict some seen judged = (taken, seen, judged)
 

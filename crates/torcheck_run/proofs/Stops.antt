@@ -1,4 +1,5 @@
 -- What a check makes of its files, where it stops.
+use Rattle.dump_read.specs.Wanted.{all_wanted}
 use Rattle.std.proofs.Common.{◌≡◌, ◌++◌, ◌∷◌, ℕ, List, [], take, Option, Some, None, Err, refl, subst}
 use Rattle.std.specs.Prelude.{IfSome}
 use Rattle.tor_arena.specs.Limits.{max_paths}
@@ -56,16 +57,16 @@ held settings known text file same is = (is.0, subst (λ t. HasOctets known t ma
 -- and reading of the dumps stopped
 pub dumps_end : {H : Type 0} (settings : CheckSettings) (h : shelf.Ghosts H) (text : List ℕ) (dumps : List (List ℕ)) (file : ResultFile) (e : Stopped) (old mid new : H) → text ≡ settings.result
     → dumps ≡ settings.dumps → (bytes : List ℕ) × HasOctets (h.files old) text max_result bytes × IsAccepted file bytes → h.opens mid ≡ h.opens old ++ text ∷ [] → ReadsShelf h ⊥ old mid
-    → StopsDumps (h.files mid) (h.steady mid) file.sets dumps (nothing max_paths) e.dump e.error → h.opens new ≡ h.opens mid ++ take e.dump dumps
+    → StopsDumps (h.files mid) (h.steady mid) (all_wanted file.sets) dumps (nothing max_paths) e.dump e.error → h.opens new ≡ h.opens mid ++ take e.dump dumps
     → IsDumpInReach dumps (h.files mid) (h.left new) e.dump e.error → ReadsShelf h (e.error ≡ error.ReadFault) mid new
     → Asks checking settings h (λ (j : Judged). j) (Err (stop.Dumps e)) old new
 dumps_end settings h text dumps file e old mid new same same_dumps is opened first stops opened_dumps reach shelf =
     let holds = held settings (h.files old) text file same is in
     dumps_stopped checking settings (its_reads settings) refl h (λ j. j) e old mid new
     (whole_first h (result_file settings) settings.dumps text old mid same first.keeps.files opened first.keeps.steady (first.quiet (λ f. f)))
-    (dump_end checking settings (its_reads settings) (h.files old) (h.steady old) file.sets (nothing max_paths) e.dump e.error refl
-    (subst (λ d. StopsDumps (h.files old) (h.steady old) file.sets d (nothing max_paths) e.dump e.error) same_dumps
-    (stops_as_before (h.files old) (h.files mid) (h.steady old) (h.steady mid) file.sets dumps (nothing max_paths) e.dump e.error first.keeps.files first.keeps.steady stops))
+    (dump_end checking settings (its_reads settings) (h.files old) (h.steady old) (all_wanted file.sets) (nothing max_paths) e.dump e.error refl
+    (subst (λ d. StopsDumps (h.files old) (h.steady old) (all_wanted file.sets) d (nothing max_paths) e.dump e.error) same_dumps
+    (stops_as_before (h.files old) (h.files mid) (h.steady old) (h.steady mid) (all_wanted file.sets) dumps (nothing max_paths) e.dump e.error first.keeps.files first.keeps.steady stops))
     (λ end ends. (file, holds, ends)) (λ n before. (file, holds, before)))
     (subst (λ d. h.opens new ≡ h.opens mid ++ take e.dump d) same_dumps opened_dumps)
     (subst (λ d. IsDumpInReach d (h.files old) (h.left new) e.dump e.error) same_dumps (reach_as_before (h.files mid) (h.files old) dumps (h.left new) e.dump e.error first.keeps.files reach)) shelf

@@ -1,4 +1,5 @@
 -- What `torcheck` is to its run: a result file and dumps come to a verdict, which is written.
+use Rattle.dump_read.specs.Wanted.{all_wanted}
 use Rattle.std.specs.Prelude.{◌≡◌, ◌∷◌, [], ℕ, zero, suc, Bool, true, false, List, Option, Some, ⊤}
 use Rattle.tor_arena.specs.Limits.{max_paths}
 use Rattle.tor_io.specs.Contents.{Files}
@@ -39,7 +40,7 @@ JudgesTaken true file taken verdict = JudgesInAnyOrder file taken.table.rows tak
 abbrev pub JudgesDumps : (any_order : Bool) → Option Files → ResultFile → List (List ℕ) → Verdict → Type 0
 JudgesDumps any_order known file [] verdict = verdict ≡ Yes
 JudgesDumps any_order known file (dump ∷ dumps) verdict =
-    (taken : Taken) × DumpsGive known file.sets (dump ∷ dumps) (nothing max_paths) taken × JudgesTaken any_order file taken verdict
+    (taken : Taken) × DumpsGive known (all_wanted file.sets) (dump ∷ dumps) (nothing max_paths) taken × JudgesTaken any_order file taken verdict
 
 -- the result file, as far as it is known, holds this result, which meets the rules 0 to 10
 abbrev pub Holds : CheckSettings → Option Files → ResultFile → Type 0
@@ -68,13 +69,13 @@ GivesOutcome settings known (BadLine line) = ⊥
 GivesOutcome settings known (Breaks line rule) = ⊥
 GivesOutcome settings known (Lacks note) = ⊥
 GivesOutcome settings known (Ends end) =
-    (file : ResultFile) × Holds settings known file × DumpsEndAt known file.sets settings.dumps (nothing max_paths) end
+    (file : ResultFile) × Holds settings known file × DumpsEndAt known (all_wanted file.sets) settings.dumps (nothing max_paths) end
 
 -- the result is judged before any dump is opened, and these are read in their order
 abbrev pub IsBefore : CheckSettings → Option Files → ℕ → Type 0
 IsBefore settings known zero = ⊤
 IsBefore settings known (suc n) =
-    (file : ResultFile) × Holds settings known file × ReadBefore known file.sets settings.dumps (nothing max_paths) (suc n)
+    (file : ResultFile) × Holds settings known file × ReadBefore known (all_wanted file.sets) settings.dumps (nothing max_paths) (suc n)
 
 -- a no by the result file comes before any dump is opened
 abbrev pub end_in : Judged → FilesEnd

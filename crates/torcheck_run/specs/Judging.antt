@@ -1,4 +1,5 @@
 -- What a verdict means, beside files that are known.
+use Rattle.dump_read.specs.Wanted.{all_wanted}
 use Rattle.std.specs.Prelude.{◌≡◌, ◌<◌, ◌⊎◌, ℕ, Bool, List, [], ◌∷◌, length, Some, Result, Ok, IsOk}
 use Rattle.tor_io.specs.Contents.{Files}
 use Rattle.result_text.specs.declared.file.ResultFile.{ResultFile}
@@ -21,7 +22,7 @@ use Rattle.torcheck_run.specs.Checking.{JudgesTaken}
 
 -- what the dumps give, read with the sets of the result
 abbrev pub seen_for : ResultFile → List (List ℕ) → Files → Result Taken DumpsEnd
-seen_for file dumps files = seen_from file.sets 1 (nothing max_paths) dumps files
+seen_for file dumps files = seen_from (all_wanted file.sets) 1 (nothing max_paths) dumps files
 
 -- yes where no dump is named. Else the dumps give paths and counts, and the verdict is on the agreement with these
 abbrev pub JudgesByDumps : (any_order : Bool) → ResultFile → List (List ℕ) → Files → Verdict → Type 0

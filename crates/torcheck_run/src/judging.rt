@@ -3,6 +3,7 @@ ghost use Rattle.std.specs.Prelude.{◌≡◌, ◌+◌, ◌≤◌, ◌++◌, [],
 ghost use Rattle.std.specs.Io.KnownBytes.{IsAtEnd};
 ghost use Rattle.tor_arena.specs.Limits.{max_paths};
 ghost use Rattle.dump_read.specs.declared.error.DumpError.TheVariants.{ReadFault as read_failed};
+ghost use Rattle.dump_read.specs.Wanted.{all_wanted};
 ghost use Rattle.result_rules.specs.File.{its_givens, most_lines};
 ghost use Rattle.result_rules.specs.Rules.{IsMet};
 ghost use Rattle.result_rules.specs.declared.rule.Rule.TheVariants.{PathsDistinct};
@@ -13,7 +14,7 @@ ghost use Rattle.run_base.specs.Stopping.{Asks, StopsDumps};
 ghost use Rattle.torcheck_run.specs.Checking.{JudgesDumps, JudgesTaken, checking};
 
 use any_order::check_against_any_order;
-use dump_read::Taken;
+use dump_read::{Taken, Wanted};
 use rel_checker::check_against;
 use result_file::{Ruling, ruling_of_file};
 use result_rules::Verdict;
@@ -59,7 +60,7 @@ fn judged_by_dumps<H: Shelf>(
     requires once { IsMet file.now PathsDistinct }
     ensures verdict { IfOk result (JudgesDumps any_order (H.files shelf.old) file.now dumps.now) }
     ensures stopped { IfErr result (λ e.
-        StopsDumps (H.files shelf.old) (H.steady shelf.old) file.now.sets dumps.now (nothing max_paths) e.dump e.error) }
+        StopsDumps (H.files shelf.old) (H.steady shelf.old) (all_wanted file.now.sets) dumps.now (nothing max_paths) e.dump e.error) }
     ensures read_out { OnOk result (IsAtEnd (H.left shelf.old) → IsAtEnd (H.left shelf.new)) }
     ensures reach { IfErr result (λ e. IsDumpInReach dumps.now (H.files shelf.old) (H.left shelf.new) e.dump e.error) }
     ensures opens { OnOk result (H.opens shelf.new ≡ H.opens shelf.old ++ dumps.now) }
@@ -70,7 +71,8 @@ fn judged_by_dumps<H: Shelf>(
         return Ok(Verdict::Yes);
     }
     let start = nothing_taken(alloc, keys, MAX_PATHS);
-    match read_onto(alloc, shelf, dumps, file.sets, start) {
+    let wanted = Wanted::all(file.sets);
+    match read_onto(alloc, shelf, dumps, &wanted, start) {
         Ok(taken) => {
             let verdict = judged_by_taken(any_order, file, &taken);
             drop(taken);

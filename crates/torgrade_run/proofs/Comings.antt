@@ -3,6 +3,7 @@ use Rattle.std.proofs.Common.{◌≡◌, ℕ, List, Option, Some, None, Result, 
 use Rattle.tor_arena.specs.Limits.{max_paths}
 use Rattle.tor_io.specs.Contents.{Files}
 use Rattle.path_clean.specs.declared.cleaned.Sets.TheVariants.{Cut}
+use Rattle.dump_read.specs.Wanted.{all_wanted}
 use Rattle.dump_read.specs.declared.taking.Taken.{Taken}
 use Rattle.dump_read.specs.Seen.{DumpsEnd}
 use Rattle.as_rel.specs.declared.line.RelLine.{RelLine}
@@ -23,7 +24,7 @@ module _ (settings : GradeSettings) (files : Files) where
   Says rel = SaysRel settings (Some files) rel
 
   abbrev seen : Result Taken DumpsEnd
-  seen = seen_from Cut 1 (nothing max_paths) settings.dumps files
+  seen = seen_from (all_wanted Cut) 1 (nothing max_paths) settings.dumps files
 
   not_there : {X : Type 0} (bytes : List ℕ) → Has bytes → files settings.rel ≡ None → X
   not_there bytes is none = values.some_not_none (files settings.rel) bytes is.there none

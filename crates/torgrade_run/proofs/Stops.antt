@@ -6,6 +6,7 @@ use Rattle.tor_arena.specs.Limits.{max_paths}
 use Rattle.tor_io.specs.Contents.{Files}
 use Rattle.tor_io.specs.declared.shelf.Shelf as shelf
 use Rattle.path_clean.specs.declared.cleaned.Sets.TheVariants.{Cut}
+use Rattle.dump_read.specs.Wanted.{all_wanted}
 use Rattle.dump_read.specs.declared.taking.Taken.{Taken}
 use Rattle.as_rel.specs.declared.line.RelLine.{RelLine}
 use Rattle.as_rel.specs.Limits.{max_rel}
@@ -37,18 +38,18 @@ module _ {H : Type 0} (settings : GradeSettings) (h : shelf.Ghosts H) (old mid :
   pub memory : Asks grading settings h basis_of (Err stop.NoMemory) old mid
   memory = first_stopped grading settings (its_reads settings) refl h basis_of (rel_file settings) stop.NoMemory old mid refl whole tt tt tt tt (λ f. f)
 
-  pub dumps_end : (rel : List RelLine) (e : Stopped) (new : H) → rel_in bytes ≡ Ok rel → ReadsDumps h Cut settings.dumps (nothing max_paths) (Err e) mid new
+  pub dumps_end : (rel : List RelLine) (e : Stopped) (new : H) → rel_in bytes ≡ Ok rel → ReadsDumps h (all_wanted Cut) settings.dumps (nothing max_paths) (Err e) mid new
       → Asks grading settings h basis_of (Err (stop.Dumps e)) old new
   dumps_end rel e new is read =
       dumps_stopped grading settings (its_reads settings) refl h basis_of e old mid new whole
-      (dump_end grading settings (its_reads settings) (h.files old) (h.steady old) Cut (nothing max_paths) e.dump e.error refl
-      (stops_as_before (h.files old) (h.files mid) (h.steady old) (h.steady mid) Cut settings.dumps (nothing max_paths) e.dump e.error whole.files whole.steady read.stopped)
+      (dump_end grading settings (its_reads settings) (h.files old) (h.steady old) (all_wanted Cut) (nothing max_paths) e.dump e.error refl
+      (stops_as_before (h.files old) (h.files mid) (h.steady old) (h.steady mid) (all_wanted Cut) settings.dumps (nothing max_paths) e.dump e.error whole.files whole.steady read.stopped)
       (λ end ends. (rel, (bytes, octets, is), ends)) (λ n before. (rel, (bytes, octets, is), before)))
       read.opens_stop (reach_as_before (h.files mid) (h.files old) settings.dumps (h.left new) e.dump e.error whole.files read.reach) read.reads_shelf
 
-  pub all_read : (graded : Graded) (new : H) → 0 < length settings.dumps → rel_in bytes ≡ Ok graded.known.rel → ReadsDumps h Cut settings.dumps (nothing max_paths) (Ok graded.taken) mid new
+  pub all_read : (graded : Graded) (new : H) → 0 < length settings.dumps → rel_in bytes ≡ Ok graded.known.rel → ReadsDumps h (all_wanted Cut) settings.dumps (nothing max_paths) (Ok graded.taken) mid new
       → Asks grading settings h basis_of (Ok graded) old new
   all_read graded new some is read =
       all_made grading settings (its_reads settings) refl h basis_of graded ⊥ old mid new whole
-      ((bytes, octets, is), dumps_give_as (h.files old) (h.files mid) Cut settings.dumps (nothing max_paths) graded.taken whole.files read.given) refl
+      ((bytes, octets, is), dumps_give_as (h.files old) (h.files mid) (all_wanted Cut) settings.dumps (nothing max_paths) graded.taken whole.files read.given) refl
       read.opens (read.read_out some) read.reads_shelf (λ f. f)

@@ -5,6 +5,7 @@ use Rattle.tor_arena.specs.Limits.{max_paths}
 use Rattle.tor_io.specs.Contents.{Files}
 use Rattle.dump_read.specs.declared.taking.Taken.{Taken}
 use Rattle.path_clean.specs.declared.cleaned.Sets.TheVariants.{Cut}
+use Rattle.dump_read.specs.Wanted.{all_wanted}
 use Rattle.as_rel.specs.declared.line.RelLine.{RelLine}
 use Rattle.as_rel.specs.Limits.{max_rel}
 use Rattle.as_rel.specs.Serial.{rel_in}
@@ -42,7 +43,7 @@ SaysRel settings known rel = (bytes : List ℕ) × HasOctets known settings.rel 
 -- what the settings and the files come to: sets are cut, and the limit on paths is the greatest
 abbrev pub GivesGrading : GradeSettings → Option Files → Outcome Basis → Type 0
 GivesGrading settings known (Makes basis) =
-    SaysRel settings known basis.rel × DumpsGive known Cut settings.dumps (nothing max_paths) basis.taken
+    SaysRel settings known basis.rel × DumpsGive known (all_wanted Cut) settings.dumps (nothing max_paths) basis.taken
 GivesGrading settings known NoFile = IsAbsent known settings.rel
 GivesGrading settings known TooLong = IsTooLong known settings.rel max_rel
 GivesGrading settings known (BadLine line) =
@@ -50,13 +51,13 @@ GivesGrading settings known (BadLine line) =
 GivesGrading settings known (Breaks line rule) = ⊥
 GivesGrading settings known (Lacks note) = ⊥
 GivesGrading settings known (Ends end) =
-    (rel : List RelLine) × SaysRel settings known rel × DumpsEndAt known Cut settings.dumps (nothing max_paths) end
+    (rel : List RelLine) × SaysRel settings known rel × DumpsEndAt known (all_wanted Cut) settings.dumps (nothing max_paths) end
 
 -- the relationships are read before any dump, and these in their order
 abbrev pub IsBefore : GradeSettings → Option Files → ℕ → Type 0
 IsBefore settings known zero = ⊤
 IsBefore settings known (suc n) =
-    (rel : List RelLine) × SaysRel settings known rel × ReadBefore known Cut settings.dumps (nothing max_paths) (suc n)
+    (rel : List RelLine) × SaysRel settings known rel × ReadBefore known (all_wanted Cut) settings.dumps (nothing max_paths) (suc n)
 
 -- the paths of the dumps, each with its grade under the known relationships, and the cone that is asked for; nothing is noted
 abbrev pub IsGrading : GradeSettings → Basis → (text note : List ℕ) → Type 0

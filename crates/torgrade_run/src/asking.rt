@@ -7,7 +7,7 @@ ghost use Rattle.torgrade_run.specs.Grading.{basis_of, grading};
 
 use crate::cones::{Cone, cone_asked};
 use as_rel::{MAX_REL, Rel, RelError, parse_rel};
-use dump_read::Taken;
+use dump_read::{Taken, Wanted};
 use path_clean::Sets;
 use run_base::{FirstFile, Stop, nothing_taken, read_onto, read_whole};
 use std::alloc::Global;
@@ -83,7 +83,8 @@ pub(crate) fn graded_of<H: Shelf>(
         Err(RelError::NoMemory) => return Err(Stop::NoMemory),
     };
     let start = nothing_taken(alloc, keys, MAX_PATHS);
-    match read_onto(alloc, shelf, settings.dumps.as_slice(), Sets::Cut, start) {
+    let wanted = Wanted::all(Sets::Cut);
+    match read_onto(alloc, shelf, settings.dumps.as_slice(), &wanted, start) {
         Ok(taken) => Ok(Graded { known, taken }),
         Err(stopped) => {
             drop(known);

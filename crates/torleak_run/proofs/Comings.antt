@@ -8,6 +8,7 @@ use Rattle.result_text.specs.Grammar.{IsTextOf}
 use Rattle.result_rules.specs.declared.verdict.Verdict.TheVariants.{No}
 use Rattle.dump_read.specs.declared.taking.Taken.{Taken}
 use Rattle.dump_read.specs.Seen.{DumpsEnd, end_named}
+use Rattle.dump_read.specs.Wanted.{all_wanted}
 use Rattle.tor_words.specs.declared.leak_settings.LeakSettings.{LeakSettings}
 use Rattle.run_base.specs.Programs.{Outcome, Makes, NoFile, TooLong, BadLine, Breaks, Lacks, Ends, OneOutcome, HasOctets}
 use Rattle.run_base.specs.Reading.{nothing, seen_from}
@@ -29,7 +30,7 @@ module _ (law : OneValue) (settings : LeakSettings) (files : Files) where
   Such file = HoldsSuch settings (Some files) file
 
   abbrev seen : ResultFile → Result Taken DumpsEnd
-  seen file = seen_from file.sets 1 (nothing max_paths) settings.dumps files
+  seen file = seen_from (all_wanted file.sets) 1 (nothing max_paths) settings.dumps files
 
   abbrev Broken : ℕ → ℕ → Type 0
   Broken line rule = (bytes : List ℕ) × Has bytes × BreaksRule bytes (No line rule)

@@ -13,6 +13,7 @@ use Rattle.dump_read.specs.declared.error.LimitKind.TheVariants.{Bytes}
 use Rattle.dump_read.specs.declared.taking.Taken.{Taken}
 use Rattle.dump_read.specs.Reach.{ReadsBounded}
 use Rattle.dump_read.specs.Refusals.{IsOfDump}
+use Rattle.dump_read.specs.Wanted.{all_wanted}
 use Rattle.result_text.specs.declared.file.ResultFile.{ResultFile}
 use Rattle.tor_words.specs.declared.leak_settings.LeakSettings.{LeakSettings}
 use Rattle.run_base.specs.declared.notes.FirstFile.TheVariants as kind
@@ -80,19 +81,19 @@ module _ {H : Type 0} (settings : LeakSettings) (h : shelf.Ghosts H) (text : Lis
       held = (ruled.0, subst (λ t. HasOctets (h.files old) t max_result ruled.0) same ruled.1, ruled.2)
 
       -- reading of the dumps stopped
-      pub dumps_end : (e : Stopped) (new : H) → ReadsDumps h file.sets settings.dumps (nothing max_paths) (Err e) mid new →
+      pub dumps_end : (e : Stopped) (new : H) → ReadsDumps h (all_wanted file.sets) settings.dumps (nothing max_paths) (Err e) mid new →
           Asks hunting settings h (λ (made : Basis). made) (Err (stop.Dumps e)) old new
       dumps_end e new read =
           dumps_stopped hunting settings (its_reads settings) refl h made_of e old mid new whole
-          (dump_end hunting settings (its_reads settings) (h.files old) (h.steady old) file.sets (nothing max_paths) e.dump e.error refl
-          (stops_as_before (h.files old) (h.files mid) (h.steady old) (h.steady mid) file.sets settings.dumps (nothing max_paths) e.dump e.error first.keeps.files first.keeps.steady read.stopped)
+          (dump_end hunting settings (its_reads settings) (h.files old) (h.steady old) (all_wanted file.sets) (nothing max_paths) e.dump e.error refl
+          (stops_as_before (h.files old) (h.files mid) (h.steady old) (h.steady mid) (all_wanted file.sets) settings.dumps (nothing max_paths) e.dump e.error first.keeps.files first.keeps.steady read.stopped)
           (λ end ends. (file, held, inl ends)) (λ n before. (file, held, before)))
           read.opens_stop (reach_as_before (h.files mid) (h.files old) settings.dumps (h.left new) e.dump e.error first.keeps.files read.reach) read.reads_shelf
 
       -- all were read
-      module _ (taken : Taken) (new : H) (some : 0 < length settings.dumps) (read : ReadsDumps h file.sets settings.dumps (nothing max_paths) (Ok taken) mid new) where
+      module _ (taken : Taken) (new : H) (some : 0 < length settings.dumps) (read : ReadsDumps h (all_wanted file.sets) settings.dumps (nothing max_paths) (Ok taken) mid new) where
         give : GiveBehind settings (h.files old) file taken
-        give = dumps_give_as (h.files old) (h.files mid) file.sets settings.dumps (nothing max_paths) taken first.keeps.files read.given
+        give = dumps_give_as (h.files old) (h.files mid) (all_wanted file.sets) settings.dumps (nothing max_paths) taken first.keeps.files read.given
 
         pub all_found : limit_behind file taken ≡ None → Asks hunting settings h (λ (made : Basis). made) (Ok (record { file = file; taken = taken })) old new
         all_found room =
@@ -100,15 +101,15 @@ module _ {H : Type 0} (settings : LeakSettings) (h : shelf.Ghosts H) (text : Lis
             (held, give, room) refl read.opens (read.read_out some) read.reads_shelf (λ f. f)
 
         -- and their paths pass a limit beside those of the result
-        known_read : (known : Option Files) → DumpsGive known file.sets settings.dumps (nothing max_paths) taken →
-            IfSome known (λ files. seen_from file.sets 1 (nothing max_paths) settings.dumps files ≡ Ok taken)
+        known_read : (known : Option Files) → DumpsGive known (all_wanted file.sets) settings.dumps (nothing max_paths) taken →
+            IfSome known (λ files. seen_from (all_wanted file.sets) 1 (nothing max_paths) settings.dumps files ≡ Ok taken)
         known_read None given = tt
         known_read (Some files) given = given
 
         bounded : (IsSome (h.files new) ↔ IsSome (h.left new)) → ReadsBounded (name_of_dump settings.dumps (length settings.dumps)) (h.files old) (h.left new)
         bounded together =
             let same_files : h.files new ≡ h.files old = read.reads_shelf.keeps.files ∙ first.keeps.files in
-            last_bounded (h.files old) (h.left new) file.sets (nothing max_paths) taken settings.dumps
+            last_bounded (h.files old) (h.left new) (all_wanted file.sets) (nothing max_paths) taken settings.dumps
             (subst (λ (known : Option Files). IsSome known ↔ IsSome (h.left new)) same_files together) (read.read_out some) some (known_read (h.files old) give)
 
         may : (why : AddRefused) → (why ≡ refused.NoMemory) ⊎ (limit_behind file taken ≡ Some why) →

@@ -10,6 +10,7 @@ use Rattle.dump_read.specs.declared.error.DumpError.{DumpError}
 use Rattle.dump_read.specs.declared.error.DumpError.TheVariants as error
 use Rattle.dump_read.specs.declared.error.LimitKind.TheVariants.{Paths, Numbers}
 use Rattle.dump_read.specs.declared.taking.Taken.{Taken}
+use Rattle.dump_read.specs.Wanted.{all_wanted}
 use Rattle.dump_read.specs.Seen.{DumpsEnd, end_named}
 use Rattle.result_text.specs.declared.file.ResultFile.{ResultFile}
 use Rattle.result_rules.specs.declared.verdict.Verdict.TheVariants.{No}
@@ -46,7 +47,7 @@ HoldsSuch settings known file = (bytes : List ℕ) × HasOctets known settings.r
 
 -- the dumps, as far as they are known, give this, read with the sets of the result
 abbrev pub GiveBehind : LeakSettings → Option Files → ResultFile → Taken → Type 0
-GiveBehind settings known file taken = DumpsGive known file.sets settings.dumps (nothing max_paths) taken
+GiveBehind settings known file taken = DumpsGive known (all_wanted file.sets) settings.dumps (nothing max_paths) taken
 
 -- the limit that the paths of dumps pass beside those of the result, if they do
 abbrev pub limit_behind : ResultFile → Taken → Option AddRefused
@@ -74,13 +75,13 @@ GivesLeaks settings known (Breaks line rule) =
     (bytes : List ℕ) × HasOctets known settings.result max_result bytes × BreaksRule bytes (No line rule)
 GivesLeaks settings known (Lacks note) = ⊥
 GivesLeaks settings known (Ends end) = (file : ResultFile) × HoldsSuch settings known file ×
-    (DumpsEndAt known file.sets settings.dumps (nothing max_paths) end ⊎ PassLimit settings known file end)
+    (DumpsEndAt known (all_wanted file.sets) settings.dumps (nothing max_paths) end ⊎ PassLimit settings known file end)
 
 -- the result is judged before any dump is opened, and these are read in their order
 abbrev pub IsBefore : LeakSettings → Option Files → ℕ → Type 0
 IsBefore settings known zero = ⊤
 IsBefore settings known (suc n) =
-    (file : ResultFile) × HoldsSuch settings known file × ReadBefore known file.sets settings.dumps (nothing max_paths) (suc n)
+    (file : ResultFile) × HoldsSuch settings known file × ReadBefore known (all_wanted file.sets) settings.dumps (nothing max_paths) (suc n)
 
 -- a line for each path of the dumps that the result does not keep, and how many there are of each kind; nothing is noted
 abbrev pub IsHunt : LeakSettings → Basis → (text note : List ℕ) → Type 0

@@ -6,7 +6,7 @@ ghost use Rattle.result_rules.specs.Rules.{Accepts};
 ghost use Rattle.route_leaks.specs.Leaks.{AreLeaksOf};
 ghost use Rattle.torleak_run.specs.Hunting.{Hunts, error_of, limit_behind};
 
-use dump_read::{DumpError, LimitKind, Taken};
+use dump_read::{DumpError, LimitKind, Taken, Wanted};
 use path_order::{DistinctPaths, Order};
 use path_table::AddRefused;
 use result_file::{Ruling, ruling_of_file};
@@ -74,7 +74,8 @@ pub(crate) fn hunted_of<H: Shelf>(
     };
     let start = nothing_taken(alloc, keys, MAX_PATHS);
     let dumps = settings.dumps.as_slice();
-    match read_onto(alloc, shelf, dumps, file.sets, start) {
+    let wanted = Wanted::all(file.sets);
+    match read_onto(alloc, shelf, dumps, &wanted, start) {
         Ok(taken) => match leaks_among(alloc, keys, file, taken) {
             Ok(leaks) => Ok(leaks),
             Err(refused) => Err(Stop::Dumps(Stopped {

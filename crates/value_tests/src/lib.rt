@@ -5,6 +5,8 @@
 #![tactic(auto)]
 
 #[cfg(test)]
+mod of_counting;
+#[cfg(test)]
 mod of_dump_read;
 #[cfg(test)]
 mod of_graphs;

@@ -1,6 +1,6 @@
 //! A test of the reading of dumps: what is taken up to a fault or a limit, which no program shows. What is read of whole dumps stands in
 //! the rows of `tor_rows`, a record of many entries among them (`list-of-a-record-of-5000-routes`).
-use dump_read::{DumpError, Fault, LimitKind, Place, Taken, read_dump};
+use dump_read::{DumpError, Fault, LimitKind, Place, Taken, Wanted, read_dump};
 use mrt_frame::At;
 use path_clean::{Asides, Cause, Sets};
 use path_table::PathTable;
@@ -57,7 +57,8 @@ fn is_one_edge(taken: &Taken) -> bool {
 fn read_octets(alloc: Global, octets: &[u8], taken: &mut Taken) -> Option<Result<(), DumpError>> {
     let mut shelf = MemShelf::new(alloc);
     let put = shelf.put("d", octets);
-    let read = read_dump(alloc, &mut shelf, "d", 1, Sets::Cut, taken);
+    let wanted = Wanted::all(Sets::Cut);
+    let read = read_dump(alloc, &mut shelf, "d", 1, &wanted, taken);
     drop(shelf);
     match put {
         Ok(()) => Some(read),

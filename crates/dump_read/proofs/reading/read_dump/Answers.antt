@@ -5,7 +5,7 @@ use Rattle.mrt_frame.specs.Reach.{ReadsUpTo, LeavesBehindHeader, max_read}
 use Rattle.mrt_frame.specs.Records.{start}
 use Rattle.tor_io.specs.Counts.{Rose}
 use Rattle.dump_read.specs.Reach.{StopsBounded}
-use Rattle.dump_read.specs.Reading.{file_reading}
+use Rattle.dump_read.specs.Wanted.{file_routes}
 use Rattle.dump_read.specs.Seen.{of_file, of_octets, end_named}
 use Rattle.dump_read.specs.Taking.{TakesSome}
 use Rattle.dump_read.proofs.FileLemmas.{on_err}
@@ -20,7 +20,7 @@ returns-in-Ok g c =
     let name = c.args.name.now in
     let left = g.H.Shelf.left c.open_file.new.self in
     let behind = g.H.Shelf.left c.read_records.new.shelf in
-    let sets = c.args.sets in
+    let wanted = c.args.wanted.now in
     let dump = c.args.dump in
     let old = c.args.taken.now in
     let new = c.read_records.new.taken in
@@ -28,13 +28,13 @@ returns-in-Ok g c =
     let read = c.read_records.ensures in
     let quiet = c.in-Ok.ensures.quiet in
     let bounded = file_and known name left (λ l. ReadsUpTo 0 max_read l behind) opened read.bounded in record {
-      read = on_ok_weaker r (λ h. file_read known name left (λ o. of_file sets dump old o ≡ Ok new) opened h) read.read;
-      stopped = err_then r (λ e. IfSome (end_named dump e) (λ end. IfSome left (λ octets. of_octets sets dump old octets ≡ Err end)))
-          (λ e. IfSome (end_named dump e) (λ end. IfSome known (λ files. of_file sets dump old (files name) ≡ Err end)))
-          (λ e. some_then (end_named dump e) (λ end. IfSome left (λ octets. of_octets sets dump old octets ≡ Err end)) (λ end. IfSome known (λ files. of_file sets dump old (files name) ≡ Err end))
-          (λ end h. file_read known name left (λ o. of_file sets dump old o ≡ Err end) opened h)) read.stopped;
+      read = on_ok_weaker r (λ h. file_read known name left (λ o. of_file wanted dump old o ≡ Ok new) opened h) read.read;
+      stopped = err_then r (λ e. IfSome (end_named dump e) (λ end. IfSome left (λ octets. of_octets wanted dump old octets ≡ Err end)))
+          (λ e. IfSome (end_named dump e) (λ end. IfSome known (λ files. of_file wanted dump old (files name) ≡ Err end)))
+          (λ e. some_then (end_named dump e) (λ end. IfSome left (λ octets. of_octets wanted dump old octets ≡ Err end)) (λ end. IfSome known (λ files. of_file wanted dump old (files name) ≡ Err end))
+          (λ end h. file_read known name left (λ o. of_file wanted dump old o ≡ Err end) opened h)) read.stopped;
       some_file = read.some_file;
-      some = on_err r read.some (λ h. file_read known name left (λ o. IfSome o (λ octets. TakesSome sets old (file_reading octets).routes new)) opened h);
+      some = on_err r read.some (λ h. file_read known name left (λ o. IfSome o (λ octets. TakesSome wanted.sets old (file_routes wanted octets) new)) opened h);
       absent = not_absent known name left (new ≡ old) opened;
       place = read.place;
       at_end = read.at_end;
@@ -59,7 +59,7 @@ returns-in-Err-Failed g c =
       read = tt;
       stopped = tt;
       some_file = tt;
-      some = none_so_far c.args.sets c.args.taken.now known name;
+      some = none_so_far c.args.wanted.now c.args.taken.now known name;
       absent = any_some known (λ files. files name ≡ None → c.args.taken.now ≡ c.args.taken.now) (λ files _. refl);
       place = tt;
       at_end = tt;
@@ -84,7 +84,7 @@ returns-in-Err-NoMemory g c =
       read = tt;
       stopped = tt;
       some_file = tt;
-      some = none_so_far c.args.sets c.args.taken.now known name;
+      some = none_so_far c.args.wanted.now c.args.taken.now known name;
       absent = any_some known (λ files. files name ≡ None → c.args.taken.now ≡ c.args.taken.now) (λ files _. refl);
       place = tt;
       at_end = tt;

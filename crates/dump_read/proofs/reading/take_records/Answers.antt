@@ -5,10 +5,10 @@ use Rattle.mrt_frame.specs.Reader.{shelf_of, next_place}
 use Rattle.mrt_frame.specs.Frames.{StopsWith}
 use Rattle.mrt_frame.specs.Steps.{lent_record}
 use Rattle.tor_io.specs.Counts.{Rose}
-use Rattle.dump_read.specs.Refusals.{peers_in, of_frame, IsOfDump}
+use Rattle.dump_read.specs.Refusals.{of_frame, IsOfDump}
 use Rattle.mrt_frame.specs.Counting.{CountsOn, CountsAll}
-use Rattle.dump_read.proofs.FileLemmas.{CountsOf, nothing_counted, counted_one, all_counted}
-use Rattle.dump_read.proofs.Goings.{GoesOf, starts, goes_on, ends, breaks, some_so_far, some_with, frame_named}
+use Rattle.dump_read.proofs.FileLemmas.{all_counted}
+use Rattle.dump_read.proofs.Goings.{ends, breaks, some_so_far, some_with, frame_named}
 use Rattle.mrt_frame.proofs.Reaches.{reads_none, reads_then}
 use Rattle.mrt_frame.specs.Reach.{max_read}
 use Rattle.mrt_frame.specs.declared.error.FrameError.{FrameError}
@@ -16,8 +16,7 @@ use Rattle.dump_read.specs.declared.error.DumpError.TheVariants as error
 use Rattle.dump_read.specs.declared.error.LimitKind.TheVariants.{Bytes}
 use Rattle.dump_read.specs.Routes.{routes_of}
 use Rattle.dump_read.proofs.Reaches.{BehindOf, begins, goes_behind, shown_behind, frame_bytes, frame_fault, frame_place, no_record, unread_fault, unread_place}
-use Rattle.mrt_frame.specs.Some.{HasRead}
-use Rattle.dump_read.proofs.Somes.{AreTaken, none_taken, taken_more, all_taken}
+use Rattle.dump_read.proofs.Somes.{Standing, all_taken, first_standing, next_standing}
 use Rattle.dump_read.proofs.reading.take_records.Goals as goal
 
 pub records-init : goal.records-init
@@ -27,9 +26,7 @@ records-init g c =
     record {
       same_reference = refl;
       live = c.requires.live;
-      goes = rw c.requires.start (starts c.args.sets (left shelf) c.args.taken.now);
-      counted = rw (c.requires.start, c.requires.none) (nothing_counted (left shelf));
-      some = rw (c.requires.start, c.requires.none) (none_taken (left shelf) c.args.sets c.args.taken.now);
+      stands = rw (c.requires.first, c.requires.start, c.requires.none) (first_standing c.args.wanted.now (left shelf) c.args.taken.now);
       reads = reads_none (left shelf) 0 (next_place c.args.frames.now).offset (omega arith);
       behind = rw c.requires.start (begins (left shelf));
       files = refl;
@@ -41,8 +38,8 @@ records-init g c =
 pub returns-in-Ok-None-clause-some : goal.returns-in-Ok-None-clause-some
 returns-in-Ok-None-clause-some g c =
     let left = g.H.Shelf.left in
-    some_so_far c.args.sets (left (shelf_of c.args.frames.now)) (left (shelf_of c.records.frames)) (next_place c.records.frames) (peers_in c.records.peers)
-    c.args.taken.now c.records.taken c.records.invariant.goes
+    some_so_far c.args.wanted.now (left (shelf_of c.args.frames.now)) (left (shelf_of c.records.frames)) (next_place c.records.frames) c.records.invariant.stands.named
+    c.args.taken.now c.records.taken c.records.invariant.stands.goes
 
 pub returns-in-Ok-None-clause-read : goal.returns-in-Ok-None-clause-read
 returns-in-Ok-None-clause-read g c =
@@ -51,7 +48,7 @@ returns-in-Ok-None-clause-read g c =
     let before = left (shelf_of c.records.frames) in
     let stops : IfSome before (λ octets. StopsWith at octets Well) =
     subst (λ o. IfNone o (IfSome before (λ octets. StopsWith at octets Well))) c.in-Ok-None.field-0-is c.in-Ok-None.ensures.end in
-    ends c.args.sets c.args.dump (left (shelf_of c.args.frames.now)) before at (peers_in c.records.peers) c.args.taken.now c.records.taken Well c.records.invariant.goes stops
+    ends c.args.wanted.now c.args.dump (left (shelf_of c.args.frames.now)) before at c.records.invariant.stands.named c.args.taken.now c.records.taken Well c.records.invariant.stands.goes stops
 
 pub returns-in-Ok-None-clause-counted : goal.returns-in-Ok-None-clause-counted
 returns-in-Ok-None-clause-counted g c =
@@ -62,19 +59,19 @@ returns-in-Ok-None-clause-counted g c =
     subst (λ o. IfNone o (IfSome before (λ octets. StopsWith at octets Well))) c.in-Ok-None.field-0-is c.in-Ok-None.ensures.end in
     let all : CountsAll before at c.records.file.records c.next.new.counts =
     subst (λ o. IfNone o (CountsAll before at c.records.file.records c.next.new.counts)) c.in-Ok-None.field-0-is c.in-Ok-None.ensures.counted_all in
-    all_counted (left (shelf_of c.args.frames.now)) before at (peers_in c.records.peers) c.records.file c.next.new.counts c.records.invariant.counted stops all
+    all_counted c.args.wanted.now (left (shelf_of c.args.frames.now)) before at c.records.invariant.stands.named c.records.file c.next.new.counts c.records.invariant.stands.counted stops all
 
 pub returns-in-Err-clause-stopped : goal.returns-in-Err-clause-stopped
 returns-in-Err-clause-stopped g c =
     let left = g.H.Shelf.left in
-    rw c.of_frame.ensures (frame_named c.args.sets c.args.dump (left (shelf_of c.args.frames.now)) (left (shelf_of c.records.frames)) (next_place c.records.frames) (peers_in c.records.peers)
-    c.args.taken.now c.records.taken c.in-Err.error c.records.invariant.goes c.in-Err.ensures.stopped)
+    rw c.of_frame.ensures (frame_named c.args.wanted.now c.args.dump (left (shelf_of c.args.frames.now)) (left (shelf_of c.records.frames)) (next_place c.records.frames) c.records.invariant.stands.named
+    c.args.taken.now c.records.taken c.in-Err.error c.records.invariant.stands.goes c.in-Err.ensures.stopped)
 
 pub returns-in-Err-clause-some : goal.returns-in-Err-clause-some
 returns-in-Err-clause-some g c =
     let left = g.H.Shelf.left in
-    some_so_far c.args.sets (left (shelf_of c.args.frames.now)) (left (shelf_of c.records.frames)) (next_place c.records.frames) (peers_in c.records.peers)
-    c.args.taken.now c.records.taken c.records.invariant.goes
+    some_so_far c.args.wanted.now (left (shelf_of c.args.frames.now)) (left (shelf_of c.records.frames)) (next_place c.records.frames) c.records.invariant.stands.named
+    c.args.taken.now c.records.taken c.records.invariant.stands.goes
 
 pub records-preserved : goal.records-preserved
 records-preserved g c =
@@ -87,20 +84,12 @@ records-preserved g c =
     record {
       same_reference = step.same_reference ∙ c.records.invariant.same_reference;
       live = step.live;
-      goes = subst (λ at. GoesOf c.args.sets (left (shelf_of c.args.frames.now)) (left (shelf_of frames)) at (peers_in c.in-Ok.behind) old new) (sym step.next)
-          (goes_on c.args.sets (left (shelf_of c.args.frames.now)) (left (shelf_of c.records.frames)) (left (shelf_of frames))
-          (next_place c.records.frames) (peers_in c.records.peers) (peers_in c.in-Ok.behind)
-          (lent_record c.in-Ok-Some.found) old mid new c.records.invariant.goes step.stands c.in-Ok.ensures.taken c.in-Ok.ensures.peers);
-      counted = subst (λ at. CountsOf (left (shelf_of c.args.frames.now)) (left (shelf_of frames)) at (peers_in c.in-Ok.behind) c.take_record.new.file) (sym step.next)
-          (counted_one (left (shelf_of c.args.frames.now)) (left (shelf_of c.records.frames)) (left (shelf_of frames))
-          (next_place c.records.frames) (peers_in c.records.peers) (peers_in c.in-Ok.behind)
-          (lent_record c.in-Ok-Some.found) c.records.file c.take_record.new.file c.next.new.counts c.in-Ok.ensures.taken.0 c.records.invariant.counted step.stands
+      stands = subst (λ at. Standing c.args.wanted.now (left (shelf_of c.args.frames.now)) (left (shelf_of frames)) at c.take_record.new.peers old new c.take_record.new.file) (sym step.next)
+          (next_standing c.args.wanted.now (left (shelf_of c.args.frames.now)) (left (shelf_of c.records.frames)) (left (shelf_of frames))
+          (next_place c.records.frames) c.records.peers c.take_record.new.peers (lent_record c.in-Ok-Some.found) old mid new c.records.file c.take_record.new.file c.next.new.counts
+          c.records.invariant.stands step.stands
           (subst (λ at. CountsOn (left (shelf_of c.records.frames)) (next_place c.records.frames) c.records.file.records (left (shelf_of frames)) at c.next.new.counts) step.next step.counted)
-          c.in-Ok.ensures.taken.1 c.in-Ok.ensures.peers c.in-Ok.ensures.counted);
-      some = subst (λ at. HasRead (left (shelf_of c.args.frames.now)) (left (shelf_of frames)) (AreTaken c.args.sets at (peers_in c.in-Ok.behind) old new c.take_record.new.file)) (sym step.next)
-          (taken_more (left (shelf_of c.args.frames.now)) (left (shelf_of c.records.frames)) (left (shelf_of frames)) c.args.sets
-          (next_place c.records.frames) (peers_in c.records.peers) (peers_in c.in-Ok.behind) (lent_record c.in-Ok-Some.found) old mid new c.records.file c.take_record.new.file c.next.new.counts
-          c.records.invariant.some step.some c.in-Ok.ensures.taken c.in-Ok.ensures.peers c.in-Ok.ensures.counted);
+          step.some c.in_default.ensures.taken c.in_default.ensures.peers c.in_default.ensures.counted);
       reads = reads_then (left (shelf_of c.args.frames.now)) (left (shelf_of c.records.frames)) (left (shelf_of frames)) 0 (next_place c.records.frames).offset (next_place frames).offset
           c.records.invariant.reads step.reached;
       behind = subst (λ at. BehindOf (left (shelf_of c.args.frames.now)) (left (shelf_of frames)) at) (sym step.next)
@@ -116,18 +105,18 @@ pub returns-in-Err-take_record-clause-stopped : goal.returns-in-Err-take_record-
 returns-in-Err-take_record-clause-stopped g c =
     let left = g.H.Shelf.left in
     let step = rw (c.in-Ok-Some.is, c.in-Ok-Some.field-0-is) at c.next.follows.holds-at-none in
-    rw c.of_unread.ensures (breaks c.args.sets c.args.dump (left (shelf_of c.args.frames.now)) (left (shelf_of c.records.frames)) (left (shelf_of c.next.follows.lender-at-none))
+    rw c.of_unread.ensures (breaks c.args.wanted.now c.args.dump (left (shelf_of c.args.frames.now)) (left (shelf_of c.records.frames)) (left (shelf_of c.next.follows.lender-at-none))
     (next_place c.records.frames)
-    (peers_in c.records.peers) (lent_record c.in-Ok-Some.found) c.args.taken.now c.records.taken c.in-Err-take_record.unread
-    c.records.invariant.goes step.stands c.in-Err-take_record.ensures.unread)
+    c.records.invariant.stands.named (lent_record c.in-Ok-Some.found) c.args.taken.now c.records.taken c.in-Err-take_record.unread
+    c.records.invariant.stands.goes step.stands (c.in-Err-take_record.ensures.unread c.records.invariant.stands.named c.records.invariant.stands.kept))
 
 pub returns-in-Err-take_record-clause-some : goal.returns-in-Err-take_record-clause-some
 returns-in-Err-take_record-clause-some g c =
     let left = g.H.Shelf.left in
     let step = rw (c.in-Ok-Some.is, c.in-Ok-Some.field-0-is) at c.next.follows.holds-at-none in
-    some_with c.args.sets (left (shelf_of c.args.frames.now)) (left (shelf_of c.records.frames)) (left (shelf_of c.next.follows.lender-at-none)) (next_place c.records.frames)
-    (peers_in c.records.peers) (lent_record c.in-Ok-Some.found) c.args.taken.now c.records.taken
-    c.take_record.new.taken c.records.invariant.goes step.stands c.in-Err-take_record.ensures.some
+    some_with c.args.wanted.now (left (shelf_of c.args.frames.now)) (left (shelf_of c.records.frames)) (left (shelf_of c.next.follows.lender-at-none)) (next_place c.records.frames)
+    c.records.invariant.stands.named (lent_record c.in-Ok-Some.found) c.args.taken.now c.records.taken
+    c.take_record.new.taken c.records.invariant.stands.goes step.stands (c.in-Err-take_record.ensures.some c.records.invariant.stands.named c.records.invariant.stands.kept)
 
 pub returns-in-Ok-None-clause-bounded : goal.returns-in-Ok-None-clause-bounded
 returns-in-Ok-None-clause-bounded g c =
@@ -158,15 +147,15 @@ returns-in-Err-clause-shown g c = λ is.
 pub returns-in-Err-take_record-clause-shown : goal.returns-in-Err-take_record-clause-shown
 returns-in-Err-take_record-clause-shown g c = λ is.
     let same : c.of_unread.result ≡ error.Limit Bytes = cc in
-    absurd (no_record c.args.sets c.args.dump c.in-Ok-Some.found.at c.records.taken (routes_of (peers_in c.records.peers) (lent_record c.in-Ok-Some.found)) c.in-Err-take_record.unread
-    c.in-Err-take_record.ensures.unread (sym c.of_unread.ensures ∙ same))
+    absurd (no_record c.args.wanted.now c.args.dump c.in-Ok-Some.found.at c.records.taken (routes_of c.records.invariant.stands.named (lent_record c.in-Ok-Some.found)) c.in-Err-take_record.unread
+    (c.in-Err-take_record.ensures.unread c.records.invariant.stands.named c.records.invariant.stands.kept) (sym c.of_unread.ensures ∙ same))
 
 pub returns-in-Ok-None-clause-some_file : goal.returns-in-Ok-None-clause-some_file
 returns-in-Ok-None-clause-some_file g c =
     let left = g.H.Shelf.left in
     let step = rw (c.in-Ok-None.is, c.in-Ok-None.field-0-is) at c.next.follows.holds-at-none in
-    all_taken (left (shelf_of c.args.frames.now)) (left (shelf_of c.records.frames)) (left (shelf_of c.next.follows.lender-at-none)) c.args.sets c.args.dump
-    (next_place c.records.frames) (peers_in c.records.peers) c.args.taken.now c.records.taken c.records.file c.next.new.counts c.records.invariant.some step.some_end
+    all_taken (left (shelf_of c.args.frames.now)) (left (shelf_of c.records.frames)) (left (shelf_of c.next.follows.lender-at-none)) c.args.wanted.now c.args.dump
+    (next_place c.records.frames) c.records.invariant.stands.named c.args.taken.now c.records.taken c.records.file c.next.new.counts c.records.invariant.stands.some step.some_end
 
 -- ---- the reader and its shelf
 

@@ -1,11 +1,7 @@
 use Rattle.std.proofs.Common.{◌≡◌, ◌-◌, ◌^◌, true}
 use Rattle.mrt_frame.specs.Reader.{shelf_of, reference_of, next_place, is_live}
-use Rattle.dump_read.specs.Refusals.{peers_in}
-use Rattle.dump_read.proofs.Goings.{GoesOf}
-use Rattle.dump_read.proofs.FileLemmas.{CountsOf}
 use Rattle.mrt_frame.specs.Reach.{ReadsUpTo}
-use Rattle.mrt_frame.specs.Some.{HasRead}
-use Rattle.dump_read.proofs.Somes.{AreTaken}
+use Rattle.dump_read.proofs.Somes.{Standing}
 use Rattle.dump_read.proofs.Reaches.{BehindOf}
 use Rattle.dump_read.proofs.reading.take_records.Given as goal
 
@@ -15,10 +11,7 @@ invariant-records g l =
     record {
       same_reference : reference_of l.frames ≡ reference_of l.fn.frames;
       live : is_live l.frames ≡ true;
-      goes : GoesOf l.sets (shelf.left (shelf_of l.fn.frames)) (shelf.left (shelf_of l.frames)) (next_place l.frames) (peers_in l.peers) l.fn.taken l.taken;
-      counted : CountsOf (shelf.left (shelf_of l.fn.frames)) (shelf.left (shelf_of l.frames)) (next_place l.frames) (peers_in l.peers) l.file;
-      some : HasRead (shelf.left (shelf_of l.fn.frames)) (shelf.left (shelf_of l.frames))
-          (AreTaken l.sets (next_place l.frames) (peers_in l.peers) l.fn.taken l.taken l.file);
+      stands : Standing l.wanted (shelf.left (shelf_of l.fn.frames)) (shelf.left (shelf_of l.frames)) (next_place l.frames) l.peers l.fn.taken l.taken l.file;
       reads : ReadsUpTo 0 (next_place l.frames).offset (shelf.left (shelf_of l.fn.frames)) (shelf.left (shelf_of l.frames));
       behind : BehindOf (shelf.left (shelf_of l.fn.frames)) (shelf.left (shelf_of l.frames)) (next_place l.frames);
       files : shelf.files (shelf_of l.frames) ≡ shelf.files (shelf_of l.fn.frames);

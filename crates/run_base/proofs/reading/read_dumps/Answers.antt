@@ -14,11 +14,11 @@ returns-in-Err-clause-stopped g c =
     let i = c.loop-place.place in
     let name = c.index-dumps-place.result in
     let mid = c.loop-place.taken in
-    let one : IfSome (end_named (i + 1) c.in-Err.error) (λ end. IfSome known (λ files. of_file c.args.sets (i + 1) mid (files name) ≡ Err end)) =
-    subst (λ (n : List ℕ). IfSome (end_named (i + 1) c.in-Err.error) (λ end. IfSome known (λ files. of_file c.args.sets (i + 1) mid (files n) ≡ Err end))) c.as_text.ensures
-    (subst (λ o. IfSome (end_named (i + 1) c.in-Err.error) (λ end. IfSome o (λ files. of_file c.args.sets (i + 1) mid (files c.as_text.result.now) ≡ Err end))) c.loop-place.invariant.files
+    let one : IfSome (end_named (i + 1) c.in-Err.error) (λ end. IfSome known (λ files. of_file c.args.wanted.now (i + 1) mid (files name) ≡ Err end)) =
+    subst (λ (n : List ℕ). IfSome (end_named (i + 1) c.in-Err.error) (λ end. IfSome known (λ files. of_file c.args.wanted.now (i + 1) mid (files n) ≡ Err end))) c.as_text.ensures
+    (subst (λ o. IfSome (end_named (i + 1) c.in-Err.error) (λ end. IfSome o (λ files. of_file c.args.wanted.now (i + 1) mid (files c.as_text.result.now) ≡ Err end))) c.loop-place.invariant.files
     c.in-Err.ensures.stopped) in
-    stops c.args.sets c.args.taken.now mid known c.args.dumps.now i name c.in-Err.error c.loop-place-test.true c.index-dumps-place.is c.loop-place.invariant.seen one
+    stops c.args.wanted.now c.args.taken.now mid known c.args.dumps.now i name c.in-Err.error c.loop-place-test.true c.index-dumps-place.is c.loop-place.invariant.seen one
 
 pub returns-in-Err-clause-steady_failed : goal.returns-in-Err-clause-steady_failed
 returns-in-Err-clause-steady_failed g c = λ steady is.
@@ -29,7 +29,7 @@ returns-in-Err-clause-steady_failed g c = λ steady is.
     subst (λ (n : List ℕ). LacksFile known n) c.as_text.ensures
     (subst (λ o. LacksFile o c.as_text.result.now) c.loop-place.invariant.files
     (c.in-Err.ensures.steady_failed (c.loop-place.invariant.steady steady) (ap (λ x. Err x) is))) in
-    absent c.args.sets c.args.taken.now c.loop-place.taken known c.args.dumps.now i name
+    absent c.args.wanted.now c.args.taken.now c.loop-place.taken known c.args.dumps.now i name
     c.loop-place-test.true c.index-dumps-place.is c.loop-place.invariant.seen lacks
 
 pub loop-place-preserved : goal.loop-place-preserved
@@ -39,12 +39,12 @@ loop-place-preserved g c =
     let name = c.index-dumps-place.result in
     let mid = c.loop-place.taken in
     let new = c.read_dump.new.taken in
-    let one : IfSome known (λ files. of_file c.args.sets (i + 1) mid (files name) ≡ Ok new) =
-    subst (λ (n : List ℕ). IfSome known (λ files. of_file c.args.sets (i + 1) mid (files n) ≡ Ok new)) c.as_text.ensures
-    (subst (λ o. IfSome o (λ files. of_file c.args.sets (i + 1) mid (files c.as_text.result.now) ≡ Ok new)) c.loop-place.invariant.files c.in-Ok.ensures.read) in
+    let one : IfSome known (λ files. of_file c.args.wanted.now (i + 1) mid (files name) ≡ Ok new) =
+    subst (λ (n : List ℕ). IfSome known (λ files. of_file c.args.wanted.now (i + 1) mid (files n) ≡ Ok new)) c.as_text.ensures
+    (subst (λ o. IfSome o (λ files. of_file c.args.wanted.now (i + 1) mid (files c.as_text.result.now) ≡ Ok new)) c.loop-place.invariant.files c.in-Ok.ensures.read) in
     record {
-      seen = one_more c.args.sets c.args.taken.now mid new known c.args.dumps.now i name c.loop-place-test.true c.index-dumps-place.is c.loop-place.invariant.seen one;
-      some = some_more c.args.sets c.args.taken.now mid new i c.loop-place.invariant.some c.in-Ok.ensures.some_file;
+      seen = one_more c.args.wanted.now c.args.taken.now mid new known c.args.dumps.now i name c.loop-place-test.true c.index-dumps-place.is c.loop-place.invariant.seen one;
+      some = some_more c.args.wanted.now c.args.taken.now mid new i c.loop-place.invariant.some c.in-Ok.ensures.some_file;
       read_out = λ _. c.in-Ok.ensures.at_end;
       files = c.in-Ok.ensures.files ∙ c.loop-place.invariant.files;
       opens = dump_opened (g.H.Shelf.opens c.args.shelf.now) (g.H.Shelf.opens c.loop-place.shelf) (g.H.Shelf.opens c.read_dump.new.shelf) c.args.dumps.now i name c.as_text.result.now

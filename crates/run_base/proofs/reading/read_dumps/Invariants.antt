@@ -10,8 +10,8 @@ invariant-loop-place g l =
     let shelf = g.H.Shelf in
     record {
       seen : IfSome (shelf.files l.fn.shelf) (λ files.
-          seen_from l.sets 1 l.fn.taken (take l.place l.dumps) files ≡ Ok l.taken);
-      some : IsOfSomeDumps l.sets l.place l.fn.taken l.taken;
+          seen_from l.wanted 1 l.fn.taken (take l.place l.dumps) files ≡ Ok l.taken);
+      some : IsOfSomeDumps l.wanted l.place l.fn.taken l.taken;
       read_out : 0 < l.place → IsAtEnd (shelf.left l.shelf);
       files : shelf.files l.shelf ≡ shelf.files l.fn.shelf;
       opens : shelf.opens l.shelf ≡ shelf.opens l.fn.shelf ++ take l.place l.dumps;

@@ -1,5 +1,6 @@
 use Rattle.std.proofs.Common.{Ok, Err, ap, refl, subst, ◌∙◌}
 use Rattle.path_clean.specs.declared.cleaned.Sets.TheVariants.{Cut}
+use Rattle.dump_read.specs.Wanted.{all_wanted}
 use Rattle.run_base.specs.Stopping.{ReadsDumps}
 use Rattle.run_base.specs.declared.whole_file.Unread.TheVariants.{Failed as failed}
 use Rattle.as_rel.specs.Limits.{max_rel}
@@ -41,11 +42,13 @@ returns-in-Ok-read_onto-clause-asks g c =
     (whole_first shelf (rel_file settings) settings.dumps c.as_text.result.now c.args.shelf.now c.read_whole.new.shelf c.as_text.ensures read.files read.opens read.steady (read.quiet (λ e. absurd cc)))
     c.in-Ok.bytes (has_octets (shelf.files c.args.shelf.now) settings.rel c.as_text.result.now max_rel c.in-Ok.bytes c.as_text.ensures read.read read.short) read.read_out
     (record { known = c.in-Ok-known_in.known; taken = c.in-Ok-read_onto.taken }) c.read_onto.new.shelf c.requires.named c.in-Ok-known_in.ensures.known
-    (subst (λ t. ReadsDumps shelf Cut settings.dumps t (Ok c.in-Ok-read_onto.taken) c.read_whole.new.shelf c.read_onto.new.shelf) c.nothing_taken-start.ensures
-    (subst (λ d. ReadsDumps shelf Cut d c.nothing_taken-start.result (Ok c.in-Ok-read_onto.taken) c.read_whole.new.shelf c.read_onto.new.shelf) c.as_slice.ensures c.in-Ok-read_onto.ensures))
+    (subst (λ t. ReadsDumps shelf (all_wanted Cut) settings.dumps t (Ok c.in-Ok-read_onto.taken) c.read_whole.new.shelf c.read_onto.new.shelf) c.nothing_taken-start.ensures
+    (subst (λ d. ReadsDumps shelf (all_wanted Cut) d c.nothing_taken-start.result (Ok c.in-Ok-read_onto.taken) c.read_whole.new.shelf c.read_onto.new.shelf) c.as_slice.ensures
+    (subst (λ w. ReadsDumps shelf w c.as_slice.result.now c.nothing_taken-start.result (Ok c.in-Ok-read_onto.taken) c.read_whole.new.shelf c.read_onto.new.shelf) c.all-wanted.ensures
+    c.in-Ok-read_onto.ensures)))
 
-pub returns-in-Err-read_onto-clause-asks : goal.returns-in-Err-read_onto-clause-asks
-returns-in-Err-read_onto-clause-asks g c =
+pub returns-clause-asks : goal.returns-clause-asks
+returns-clause-asks g c =
     let read = c.in-Ok.ensures in
     let settings = c.args.settings.now in
     let shelf = g.H.Shelf in
@@ -53,5 +56,7 @@ returns-in-Err-read_onto-clause-asks g c =
     (whole_first shelf (rel_file settings) settings.dumps c.as_text.result.now c.args.shelf.now c.read_whole.new.shelf c.as_text.ensures read.files read.opens read.steady (read.quiet (λ e. absurd cc)))
     c.in-Ok.bytes (has_octets (shelf.files c.args.shelf.now) settings.rel c.as_text.result.now max_rel c.in-Ok.bytes c.as_text.ensures read.read read.short) read.read_out
     c.in-Ok-known_in.known.rel c.in-Err-read_onto.stopped c.read_onto.new.shelf c.in-Ok-known_in.ensures.known
-    (subst (λ t. ReadsDumps shelf Cut settings.dumps t (Err c.in-Err-read_onto.stopped) c.read_whole.new.shelf c.read_onto.new.shelf) c.nothing_taken-start.ensures
-    (subst (λ d. ReadsDumps shelf Cut d c.nothing_taken-start.result (Err c.in-Err-read_onto.stopped) c.read_whole.new.shelf c.read_onto.new.shelf) c.as_slice.ensures c.in-Err-read_onto.ensures))
+    (subst (λ t. ReadsDumps shelf (all_wanted Cut) settings.dumps t (Err c.in-Err-read_onto.stopped) c.read_whole.new.shelf c.read_onto.new.shelf) c.nothing_taken-start.ensures
+    (subst (λ d. ReadsDumps shelf (all_wanted Cut) d c.nothing_taken-start.result (Err c.in-Err-read_onto.stopped) c.read_whole.new.shelf c.read_onto.new.shelf) c.as_slice.ensures
+    (subst (λ w. ReadsDumps shelf w c.as_slice.result.now c.nothing_taken-start.result (Err c.in-Err-read_onto.stopped) c.read_whole.new.shelf c.read_onto.new.shelf) c.all-wanted.ensures
+    c.in-Err-read_onto.ensures)))

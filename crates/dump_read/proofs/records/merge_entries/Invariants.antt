@@ -1,8 +1,0 @@
-use Rattle.dump_read.proofs.Merges.{MergedSoFar}
-use Rattle.dump_read.proofs.records.merge_entries.Given as goal
-
-abbrev pub invariant-entries : goal.invariant-entries
-invariant-entries l = MergedSoFar l.sets l.fn.entries.entries l.left.entries l.batch
-
-abbrev pub decreases-entries : goal.decreases-entries
-decreases-entries l = l.left.left
